@@ -1,0 +1,5 @@
+pub mod Refusals
+pub mod Layout
+pub mod Rows
+pub mod Headers
+pub mod Cells

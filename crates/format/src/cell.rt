@@ -1,0 +1,75 @@
+// The cells of a table.
+ghost use mathlib.Core.Path.{_≡_};
+ghost use Prim.Native.Nat.{_≤_};
+ghost use lib.IntN.{pos};
+ghost use Rattle.std.specs.Options.{Cases};
+ghost use Rattle.format.specs.Cells.{NoCell, IsCell, NoOther, IsOther, parts};
+use crate::layout::Row;
+use language::MAX_ARGUMENTS;
+use language::MAX_PARTS;
+use language::NAMES;
+
+// A variable's number, and a function's: 0 to 63.
+pub type Variable = u8;
+pub type Function = u8;
+
+#[derive(Clone, Copy, PartialEq, Eq, Debug)]
+pub enum Cell {
+    Literal(i32),
+    Var(Variable),
+    Set(Variable),
+    If,
+    While,
+    // how many parts follow
+    Begin(u16),
+    // the function, and how many arguments follow
+    Apply(Function, u8),
+    Formal(Variable),
+}
+
+impl Cell {
+    // The cell that has this code and operand, or None where no cell has them.
+    pub fn read(row: Row) -> Option<Cell>
+        ensures { λ r. ⌜ Cases r (NoCell (row .code) (row .operand)) (IsCell (row .code) (row .operand)) ⌝ }
+    {
+        if row.code == 0 {
+            return Some(Cell::Literal(row.operand));
+        }
+        match u16::try_from(row.operand) {
+            Ok(operand) => Cell::other(row.code, operand),
+            Err(_) => None,
+        }
+    }
+
+    // The same of a code other than LITERAL's, whose operand is no negative number.
+    fn other(code: u8, operand: u16) -> Option<Cell>
+        ensures { λ r. ⌜ Cases r (NoOther code operand) (IsOther code operand) ⌝ }
+    {
+        match code {
+            1 if operand < NAMES as u16 => Some(Cell::Var(operand as u8)),
+            2 if operand < NAMES as u16 => Some(Cell::Set(operand as u8)),
+            3 if operand == 0 => Some(Cell::If),
+            4 if operand == 0 => Some(Cell::While),
+            5 if operand <= MAX_PARTS => Some(Cell::Begin(operand)),
+            6 if operand < 16 * NAMES as u16 => {
+                Some(Cell::Apply((operand / 16) as u8, (operand % 16) as u8))
+            }
+            7 if operand < NAMES as u16 => Some(Cell::Formal(operand as u8)),
+            _ => None,
+        }
+    }
+
+    // How many parts follow the cell.
+    pub fn parts(&self) -> u16
+        ensures { λ r. ⌜ r ≡ parts (now (self .entry)) ⌝ }
+    {
+        match self {
+            Cell::Literal(_) | Cell::Var(_) | Cell::Formal(_) => 0,
+            Cell::Set(_) => 1,
+            Cell::If => 3,
+            Cell::While => 2,
+            Cell::Begin(n) => *n,
+            Cell::Apply(_, n) => *n as u16,
+        }
+    }
+}

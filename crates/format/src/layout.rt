@@ -1,0 +1,67 @@
+// The bytes of a table or an image, cut into their two arrays.
+ghost use mathlib.Core.Path.{_≡_};
+ghost use Prim.Native.Nat.{_+_, _*_, _<_, _≤_};
+ghost use mathlib.Core.Logic.{_⊎_};
+ghost use lib.ListN.{length, getD};
+ghost use Rattle.std.specs.Options.{Cases};
+ghost use Rattle.format.specs.Layout.{codesIn, operandsIn};
+ghost use Rattle.format.specs.Rows.{Whole, Cut, RowAt, NoRow};
+
+#[derive(Clone, Copy)]
+pub struct Layout<'a> {
+    codes: &'a [u8],
+    operands: &'a [u8],
+}
+
+// A code with its operand.
+#[derive(Clone, Copy)]
+pub struct Row {
+    pub code: u8,
+    pub operand: i32,
+}
+
+impl<'a> Layout<'a> {
+    // None where the bytes are not as many as their header says.
+    pub fn cut(bytes: &'a [u8]) -> Option<Layout<'a>>
+        ensures { λ r. ⌜ Cases r (Whole (now (bytes .entry)) → ⊥) (λ l. Cut (now (bytes .entry)) (now (l .codes)) (now (l .operands))) ⌝ }
+    {
+        if bytes.len() < 8 {
+            return None;
+        }
+        let count = u16::from_le_bytes([bytes[0], bytes[1]]) as usize;
+        if bytes.len() != 8 + 5 * count {
+            return None;
+        }
+        Some(Layout {
+            codes: &bytes[8..8 + count],
+            operands: &bytes[8 + count..],
+        })
+    }
+
+    pub fn len(&self) -> usize
+        ensures { λ r. ⌜ r ≡ length (now (now (self .entry) .codes)) ⌝ }
+    {
+        self.codes.len()
+    }
+
+    // The row at `i`, or None past the end of either array.
+    pub fn row(&self, i: u16) -> Option<Row>
+        ensures { λ r. ⌜ Cases r (NoRow (now (now (self .entry) .codes)) (now (now (self .entry) .operands)) i) (RowAt (now (now (self .entry) .codes)) (now (now (self .entry) .operands)) i) ⌝ }
+    {
+        let i = i as usize;
+        let at = 4 * i;
+        if i >= self.codes.len() || at + 4 > self.operands.len() {
+            return None;
+        }
+        let operand = [
+            self.operands[at],
+            self.operands[at + 1],
+            self.operands[at + 2],
+            self.operands[at + 3],
+        ];
+        Some(Row {
+            code: self.codes[i],
+            operand: i32::from_le_bytes(operand),
+        })
+    }
+}
