@@ -1,6 +1,6 @@
 -- A cell's code and operand, and the cells of a definition.
 use mathlib.Core.Path.{_≡_}
-use mathlib.Core.Logic.{_≢_}
+use mathlib.Core.Bool.{Bool, true, false}
 use mathlib.Core.List.{List, [], _∷_, _++_, map}
 use Prim.Native.Nat.{ℕ, _+_, _*_, _<_}
 use lib.IntN.{ℤ, pos}
@@ -56,24 +56,26 @@ pub record IsCell (b : ℕ) (v : ℤ) (c : Cell) : Type 0 where
 abbrev pub NoCell : ℕ → ℤ → Type 0
 NoCell b v = (c : Cell) → IsCell b v c → ⊥
 
--- the same of cells other than LITERAL
-pub record IsOther (b n : ℕ) (c : Cell) : Type 0 where
-  pub other : code c ≢ 0
-  pub is : IsCell b (pos n) c
+-- how many parts follow a cell that begins an expression; a FORMAL begins none
+abbrev pub parts : Cell → Option ℕ
+parts (Literal v) = Some 0
+parts (Var x) = Some 0
+parts (Set x) = Some 1
+parts If = Some 3
+parts While = Some 2
+parts (Begin n) = Some n
+parts (Apply f k) = Some k
+parts (Formal x) = None
 
-abbrev pub NoOther : ℕ → ℕ → Type 0
-NoOther b n = (c : Cell) → IsOther b n c → ⊥
-
--- how many parts follow a cell
-abbrev pub parts : Cell → ℕ
-parts (Literal v) = 0
-parts (Var x) = 0
-parts (Set x) = 1
-parts If = 3
-parts While = 2
-parts (Begin n) = n
-parts (Apply f k) = k
-parts (Formal x) = 0
+abbrev pub isFormal : Cell → Bool
+isFormal (Literal v) = false
+isFormal (Var x) = false
+isFormal (Set x) = false
+isFormal If = false
+isFormal While = false
+isFormal (Begin n) = false
+isFormal (Apply f k) = false
+isFormal (Formal x) = true
 
 -- an expression in prefix order, each cell before its parts
 abbrev mutual

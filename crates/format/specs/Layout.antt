@@ -4,7 +4,7 @@ use Prim.Native.Nat.{ℕ, _+_, _*_, _/_, _%_, _^_}
 use lib.IntN.{ℤ}
 use lib.ListN.{length, getD, take, drop}
 use mir.Syntax.{w32}
-use mir.Val.{toZ, ofZ}
+use mir.Val.{ofZ}
 use Rattle.format.specs.declared.header.Header.{Header}
 use Rattle.format.specs.declared.header.Kind.{Kind}
 use Rattle.format.specs.declared.header.Kind.the-variants.{Function, Variable}
@@ -36,9 +36,6 @@ layout h codes operands = headerBytes (length codes) h ++ (codes ++ operandBytes
 -- and back: what stands at a place
 abbrev pub u16At : List ℕ → ℕ → ℕ
 u16At s at = getD s at 0 + getD s (at + 1) 0 * 256
-
-abbrev pub i32At : List ℕ → ℕ → ℤ
-i32At s at = toZ w32 (getD s at 0 + getD s (at + 1) 0 * 256 + getD s (at + 2) 0 * 65536 + getD s (at + 3) 0 * 16777216)
 
 -- the number of cells or instructions, by the header
 abbrev pub countIn : List ℕ → ℕ

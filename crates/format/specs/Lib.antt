@@ -1,5 +1,6 @@
 pub mod Refusals
 pub mod Layout
-pub mod Rows
 pub mod Headers
+pub mod Rows
 pub mod Cells
+pub mod Others

@@ -3,7 +3,8 @@ ghost use mathlib.Core.Path.{_≡_};
 ghost use Prim.Native.Nat.{_≤_};
 ghost use lib.IntN.{pos};
 ghost use Rattle.std.specs.Options.{Cases};
-ghost use Rattle.format.specs.Cells.{NoCell, IsCell, NoOther, IsOther, parts};
+ghost use Rattle.format.specs.Cells.{NoCell, IsCell, parts, isFormal};
+ghost use Rattle.format.specs.Others.{NoOther, IsOther};
 use crate::layout::Row;
 use language::MAX_ARGUMENTS;
 use language::MAX_PARTS;
@@ -59,17 +60,24 @@ impl Cell {
         }
     }
 
-    // How many parts follow the cell.
-    pub fn parts(&self) -> u16
+    // How many parts follow a cell that begins an expression. A FORMAL begins none.
+    pub fn parts(&self) -> Option<u16>
         ensures { λ r. ⌜ r ≡ parts (now (self .entry)) ⌝ }
     {
         match self {
-            Cell::Literal(_) | Cell::Var(_) | Cell::Formal(_) => 0,
-            Cell::Set(_) => 1,
-            Cell::If => 3,
-            Cell::While => 2,
-            Cell::Begin(n) => *n,
-            Cell::Apply(_, n) => *n as u16,
+            Cell::Literal(_) | Cell::Var(_) => Some(0),
+            Cell::Set(_) => Some(1),
+            Cell::If => Some(3),
+            Cell::While => Some(2),
+            Cell::Begin(count) => Some(*count),
+            Cell::Apply(_, count) => Some(*count as u16),
+            Cell::Formal(_) => None,
         }
+    }
+
+    pub fn is_formal(&self) -> bool
+        ensures { λ r. ⌜ r ≡ isFormal (now (self .entry)) ⌝ }
+    {
+        matches!(self, Cell::Formal(_))
     }
 }

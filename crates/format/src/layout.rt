@@ -5,7 +5,7 @@ ghost use mathlib.Core.Logic.{_⊎_};
 ghost use lib.ListN.{length, getD};
 ghost use Rattle.std.specs.Options.{Cases};
 ghost use Rattle.format.specs.Layout.{codesIn, operandsIn};
-ghost use Rattle.format.specs.Rows.{Whole, Cut, RowAt, NoRow};
+ghost use Rattle.format.specs.Rows.{Whole, Cut, NumberAt, RowAt, NoRow};
 
 #[derive(Clone, Copy)]
 pub struct Layout<'a> {
@@ -49,19 +49,19 @@ impl<'a> Layout<'a> {
         ensures { λ r. ⌜ Cases r (NoRow (now (now (self .entry) .codes)) (now (now (self .entry) .operands)) i) (RowAt (now (now (self .entry) .codes)) (now (now (self .entry) .operands)) i) ⌝ }
     {
         let i = i as usize;
-        let at = 4 * i;
-        if i >= self.codes.len() || at + 4 > self.operands.len() {
+        if i >= self.codes.len() || 4 * i + 4 > self.operands.len() {
             return None;
         }
-        let operand = [
-            self.operands[at],
-            self.operands[at + 1],
-            self.operands[at + 2],
-            self.operands[at + 3],
-        ];
         Some(Row {
             code: self.codes[i],
-            operand: i32::from_le_bytes(operand),
+            operand: read_i32(self.operands, 4 * i),
         })
     }
+}
+
+fn read_i32(bytes: &[u8], at: usize) -> i32
+    requires { ⌜ at + 4 ≤ length (now bytes) ⌝ }
+    ensures { λ r. ⌜ NumberAt (now (bytes .entry)) at r ⌝ }
+{
+    i32::from_le_bytes([bytes[at], bytes[at + 1], bytes[at + 2], bytes[at + 3]])
 }
