@@ -1,12 +1,12 @@
--- What the two functions that read prefix cells answer.
+-- What the parts of the check answer.
 use mathlib.Core.Path.{_≡_}
 use mathlib.Core.List.{List, [], _∷_}
-use Prim.Native.Nat.{ℕ, _+_, _*_, _≤_}
-use lib.ListN.{length}
+use Prim.Native.Nat.{ℕ, _+_, _*_, _<_, _≤_}
+use lib.ListN.{length, take, drop}
 use Rattle.language.specs.Tree.{Exp, Exps, count, depth, depths}
 use Rattle.format.specs.declared.cell.Cell.{Cell}
 use Rattle.format.specs.Cells.{encode, encodes}
-use Rattle.translator.specs.declared.Extent.{Extent}
+use Rattle.translator.specs.declared.expression.Extent.{Extent}
 use Rattle.translator.specs.Tables.{CellAt}
 
 -- two arrays of a table
@@ -37,3 +37,23 @@ pub record ExpsAt (codes operands : List ℕ) (at n : ℕ) (x : Extent) : Type 0
 
 abbrev pub NoExps : List ℕ → List ℕ → ℕ → ℕ → Type 0
 NoExps codes operands at n = (es : Exps) → count es ≡ n → Spells codes operands at (encodes es) → ⊥
+
+-- the operands at two places are the same
+abbrev pub Same : List ℕ → ℕ → ℕ → Type 0
+Same operands i j = take 4 (drop (4 * i) operands) ≡ take 4 (drop (4 * j) operands)
+
+pub record Earlier (operands : List ℕ) (j : ℕ) : Type 0 where
+  pub i : ℕ
+  pub before : i < j
+  pub same : Same operands i j
+
+abbrev pub NoEarlier : List ℕ → ℕ → Type 0
+NoEarlier operands j = (i : ℕ) → i < j → Same operands i j → ⊥
+
+pub record Repeated (operands : List ℕ) (n : ℕ) : Type 0 where
+  pub j : ℕ
+  pub within : j < n
+  pub earlier : Earlier operands j
+
+abbrev pub NoneRepeated : List ℕ → ℕ → Type 0
+NoneRepeated operands n = (j : ℕ) → j < n → NoEarlier operands j

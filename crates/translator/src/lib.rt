@@ -1,52 +1,7 @@
 // Tables of definitions: whether bytes are one, and what is wrong with them otherwise.
-ghost use mathlib.Core.Path.{_≡_};
-ghost use Prim.Native.Nat.{_≤_};
-ghost use lib.ListN.{length};
-ghost use Rattle.std.specs.Options.{Cases};
-ghost use Rattle.translator.specs.Walks.{Parallel, ExpAt, NoExp, ExpsAt, NoExps};
-use format::cell::Cell;
-use format::header::Header;
-use format::layout::Layout;
+mod cells;
+mod expression;
+mod table;
 
-// An accepted table.
-#[derive(Clone, Copy)]
-pub struct Table<'a> {
-    pub header: Header,
-    cells: Layout<'a>,
-}
-
-// The index after the last cell of an expression or a list of parts, and the greatest depth in it.
-#[derive(Clone, Copy)]
-struct Extent {
-    end: u16,
-    depth: u16,
-}
-
-// The expression that begins at `at`, or None where there is none.
-fn read_expression(cells: &Layout, at: u16) -> Option<Extent>
-    requires { ⌜ Parallel (now (now cells .codes)) (now (now cells .operands)) ⌝ }
-    ensures { λ r. ⌜ Cases r (NoExp (now (now (cells .entry) .codes)) (now (now (cells .entry) .operands)) at) (ExpAt (now (now (cells .entry) .codes)) (now (now (cells .entry) .operands)) at) ⌝ }
-{
-    let cell = Cell::read(cells.row(at)?)?;
-    let inner = read_parts(cells, at + 1, cell.parts()?)?;
-    Some(Extent {
-        end: inner.end,
-        depth: inner.depth + 1,
-    })
-}
-
-// The `count` expressions that begin at `at`, one after the other, or None where there are fewer.
-fn read_parts(cells: &Layout, at: u16, count: u16) -> Option<Extent>
-    requires { ⌜ Parallel (now (now cells .codes)) (now (now cells .operands)) ⌝ }
-    ensures { λ r. ⌜ Cases r (NoExps (now (now (cells .entry) .codes)) (now (now (cells .entry) .operands)) at count) (ExpsAt (now (now (cells .entry) .codes)) (now (now (cells .entry) .operands)) at count) ⌝ }
-{
-    if count == 0 {
-        return Some(Extent { end: at, depth: 0 });
-    }
-    let first = read_expression(cells, at)?;
-    let rest = read_parts(cells, first.end, count - 1)?;
-    Some(Extent {
-        end: rest.end,
-        depth: first.depth.max(rest.depth),
-    })
-}
+pub use table::Table;
+pub use table::accept;

@@ -1,0 +1,4 @@
+pub mod Trees
+pub mod Places
+pub mod Steps
+pub mod Spelt
