@@ -28,11 +28,11 @@ pub valid-append : (cs ds : List Cell) → AllValid cs → AllValid ds → AllVa
 valid-append [] ds x y = y
 valid-append (c ∷ cs) ds x y = (x .0, valid-append cs ds (x .1) y)
 
-valid-front : (cs ds : List Cell) → AllValid (cs ++ ds) → AllValid cs
+pub valid-front : (cs ds : List Cell) → AllValid (cs ++ ds) → AllValid cs
 valid-front [] ds x = tt
 valid-front (c ∷ cs) ds x = (x .0, valid-front cs ds (x .1))
 
-valid-back : (cs ds : List Cell) → AllValid (cs ++ ds) → AllValid ds
+pub valid-back : (cs ds : List Cell) → AllValid (cs ++ ds) → AllValid ds
 valid-back [] ds x = x
 valid-back (c ∷ cs) ds x = valid-back cs ds (x .1)
 

@@ -16,7 +16,7 @@ use Rattle.translator.specs.declared.expression.Extent.{Extent}
 use Rattle.translator.specs.Tables.{CellAt}
 use Rattle.translator.specs.Walks.{Parallel, Spells, ExpAt, NoExp, ExpsAt, NoExps}
 use Rattle.translator.proofs.Trees.{headOf, partsIn, split, make, unique, encode-size, encodes-size, depth-bound, depths-bound, size-some}
-use Rattle.translator.proofs.Places.{one-cell, cell-here, no-cell-here, spells-append, spells-front, spells-back, meet}
+use Rattle.translator.proofs.Places.{one-cell, cell-here, no-cell-here, spells-append, spells-front, spells-back, spells-within, meet}
 
 module _ (codes operands : List ℕ) where
   -- the first cell of an expression, and its parts after it
@@ -88,3 +88,8 @@ module _ (codes operands : List ℕ) where
 
   pub exps-bounds : (at n : ℕ) (p : Extent) → ExpsAt codes operands at n p → p .depth + at ≤ p .«end»
   exps-bounds at n p x = omega (arith, x .past, x .deep, encodes-size (x .es), depths-bound (x .es))
+
+  pub end-within : (at : ℕ) (p : Extent) → ExpAt codes operands at p → p .«end» ≤ length codes
+  end-within at p x =
+      let b = first (x .e) (x .spells) .0 .within in
+      omega (arith, x .past, spells-within codes operands at (encode (x .e)) (omega arith) (x .spells))

@@ -31,7 +31,10 @@ pub record Accepted (t : List ℕ) (r : Table) : Type 0 where
   pub only : (d : Definition) → IsTable t d → d ≡ definition
   pub header : r .header ≡ headerOf definition
 
+abbrev pub NoTable : List ℕ → Type 0
+NoTable t = (d : Definition) → Within d → t ≡ tableOf d → ⊥
+
 -- what `accept` answers
 abbrev pub Verdict : List ℕ → Result Table Refusal → Type 0
 Verdict t (Ok r) = Accepted t r
-Verdict t (Err e) = Refused t (told e) × ((d : Definition) → Within d → t ≡ tableOf d → ⊥)
+Verdict t (Err e) = Refused t (told e) × NoTable t

@@ -23,7 +23,8 @@ pub fn accept(table: &[u8]) -> Result<Table<'_>, Refusal>
     let Some(cells) = Layout::cut(table) else {
         return Err(Refusal::Size);
     };
-    if cells.len() == 0 || cells.len() > MAX_CELLS {
+    let count = cells.len();
+    if count == 0 || count > MAX_CELLS {
         return Err(Refusal::Size);
     }
     let Some(header) = Header::read(table) else {
@@ -38,7 +39,7 @@ pub fn accept(table: &[u8]) -> Result<Table<'_>, Refusal>
     let Some(body) = read_expression(&cells, header.formals as u16) else {
         return Err(Refusal::Shape);
     };
-    if (body.end as usize) < cells.len() {
+    if (body.end as usize) < count {
         return Err(Refusal::Shape);
     }
     if has_repeated(&cells, header.formals) {
