@@ -14,7 +14,7 @@ use language::NAMES;
 pub type Variable = u8;
 pub type Function = u8;
 
-#[derive(Clone, Copy, PartialEq, Eq, Debug)]
+#[derive(Clone, Copy)]
 pub enum Cell {
     Literal(i32),
     Var(Variable),

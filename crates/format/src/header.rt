@@ -8,7 +8,7 @@ ghost use Rattle.format.specs.Headers.{mostFormals, Headed, HeaderAt};
 use language::MAX_FORMALS;
 use language::NAMES;
 
-#[derive(Clone, Copy, PartialEq, Eq, Debug)]
+#[derive(Clone, Copy)]
 pub enum Kind {
     Function,
     Variable,
@@ -36,7 +36,7 @@ impl Kind {
 }
 
 // What a header says besides the number of cells or instructions. A table has height 0.
-#[derive(Clone, Copy, PartialEq, Eq, Debug)]
+#[derive(Clone, Copy)]
 pub struct Header {
     pub height: u16,
     pub kind: Kind,

@@ -16,7 +16,7 @@ use Rattle.format.specs.Headers.{mostFormals, Headed}
 use Rattle.format.specs.Rows.{Whole}
 use Rattle.format.specs.Cells.{code, operand, encode, cells, kindOf, tableOf}
 use Rattle.translator.specs.Tables.{Sized, TableHead, formalsIn, AllRight, IsTable}
-use Rattle.translator.specs.Walks.{Spells}
+use Rattle.translator.specs.Reading.{Spells}
 use Rattle.translator.proofs.Trees.{encode-size, size-some}
 use Rattle.translator.proofs.Places.{one-cell, spells-front, spells-back}
 use Rattle.translator.proofs.Steps.{one-exp}

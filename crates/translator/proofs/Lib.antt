@@ -5,3 +5,4 @@ pub mod Spelt
 pub mod Facts
 pub mod Made
 pub mod Verdicts
+pub mod Once

@@ -21,7 +21,7 @@ use Rattle.format.specs.Cells.{code, operand, encode, cells, isFormal, kindOf, 
 use Rattle.format.proofs.Bytes.{take-two}
 use Rattle.translator.specs.declared.expression.Extent.{Extent}
 use Rattle.translator.specs.Tables.{CellAt, Right, AllRight, IsTable}
-use Rattle.translator.specs.Walks.{Parallel, Spells, ExpAt}
+use Rattle.translator.specs.Reading.{Parallel, Spells, ExpAt}
 use Rattle.translator.proofs.Trees.{encode-size}
 use Rattle.translator.proofs.Places.{spells-append}
 use Rattle.translator.proofs.Spelt.{valid-front, valid-back, valid-ranged, valid-names, spells-valid, codes-spelt, operands-spelt}

@@ -16,7 +16,7 @@ use Rattle.format.specs.Rows.{RowAt}
 use Rattle.format.specs.Cells.{code, operand, Valid, IsCell, NoCell}
 use Rattle.format.proofs.Bytes.{bytes4-injective}
 use Rattle.translator.specs.Tables.{CellAt}
-use Rattle.translator.specs.Walks.{Spells}
+use Rattle.translator.specs.Reading.{Spells}
 
 natural : ℤ → ℕ
 natural (pos n) = n

@@ -15,7 +15,7 @@ use Rattle.format.specs.declared.cell.Cell.the-variants.{Literal, Var, Set, If,
 use Rattle.format.specs.Layout.{bytes4, operandBytes}
 use Rattle.format.specs.Cells.{code, operand, Valid, encode, encodes, isFormal}
 use Rattle.translator.specs.Tables.{CellAt, Right, AllRight}
-use Rattle.translator.specs.Walks.{Spells}
+use Rattle.translator.specs.Reading.{Spells}
 use Rattle.translator.proofs.Places.{spells-at, spells-front, spells-back}
 
 -- ---- cells in range

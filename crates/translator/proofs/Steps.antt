@@ -14,7 +14,7 @@ use Rattle.format.specs.Rows.{RowAt, NoRow}
 use Rattle.format.specs.Cells.{encode, encodes, parts, IsCell, NoCell}
 use Rattle.translator.specs.declared.expression.Extent.{Extent}
 use Rattle.translator.specs.Tables.{CellAt}
-use Rattle.translator.specs.Walks.{Parallel, Spells, ExpAt, NoExp, ExpsAt, NoExps}
+use Rattle.translator.specs.Reading.{Parallel, Spells, ExpAt, NoExp, ExpsAt, NoExps}
 use Rattle.translator.proofs.Trees.{headOf, partsIn, split, make, unique, encode-size, encodes-size, depth-bound, depths-bound, size-some}
 use Rattle.translator.proofs.Places.{one-cell, cell-here, no-cell-here, spells-append, spells-front, spells-back, spells-within, meet}
 

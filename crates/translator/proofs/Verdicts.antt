@@ -4,6 +4,7 @@ use mathlib.Core.Logic.{_⊎_, inl, inr}
 use mathlib.Core.List.{List, [], _∷_, _++_, map}
 use Prim.Native.Nat.{ℕ, zero, suc, _+_, _*_, _≤_, _<_}
 use native.Mathlib.Omega.{arith}
+use denote.Ref.{now}
 use lib.IntN.{ℤ, pos}
 use lib.ListN.{length, getD, take, drop}
 use Rattle.std.proofs.shelf.Lists.{length-map}
@@ -22,8 +23,8 @@ use Rattle.format.proofs.Bytes.{bytes4-injective}
 use Rattle.translator.specs.declared.expression.Extent.{Extent}
 use Rattle.translator.specs.declared.table.Table.{Table}
 use Rattle.translator.specs.Tables.{Sized, TableHead, formalsIn, CellAt, AllRight, FirstWrong, wrong, missing, IsTable}
-use Rattle.translator.specs.Verdict.{Refused, SIZE, HEAD, CELL, SHAPE, TWICE, NEST, NoTable, Accepted}
-use Rattle.translator.specs.Walks.{Parallel, Spells, ExpAt, NoExp, Repeated, NoneRepeated}
+use Rattle.translator.specs.Verdict.{Passed, Refused, SIZE, HEAD, CELL, SHAPE, TWICE, NEST, NoTable, Accepted}
+use Rattle.translator.specs.Reading.{Parallel, Spells, ExpAt, NoExp, Repeated, NoneRepeated}
 use Rattle.translator.proofs.Places.{operand-value, spells-front, spells-back}
 use Rattle.translator.proofs.Steps.{one-exp}
 use Rattle.translator.proofs.Facts.{Facts, facts, one-definition}
@@ -32,13 +33,16 @@ use Rattle.translator.proofs.Made.{Made, sizes}
 table-of : {t : List ℕ} {d : Definition} → Within d → t ≡ tableOf d → IsTable t d
 table-of w is = record { fits = w .fits; is = is }
 
+passes : {t : List ℕ} {d : Definition} → IsTable t d → Passed t
+passes x = let f = facts x in record { sized = f .sized; head = f .head; right = f .right }
+
 pub refuse-size : (t : List ℕ) → (Sized t → ⊥) → Refused t (told Size) × NoTable t
 refuse-size t never = (SIZE never, λ d w is. never (facts (table-of w is) .sized))
 
 pub refuse-head : (t : List ℕ) → Sized t → (TableHead t → ⊥) → Refused t (told Head) × NoTable t
 refuse-head t s never = (HEAD s never, λ d w is. never (facts (table-of w is) .head))
 
-not-both : {codes operands : List ℕ} {n i : ℕ} → FirstWrong codes operands n i → AllRight codes operands n → ⊥
+pub not-both : {codes operands : List ℕ} {n i : ℕ} → FirstWrong codes operands n i → AllRight codes operands n → ⊥
 not-both (wrong within before here) all = here (all .each _ within)
 not-both (missing at-end before few) all = omega (arith, all .enough)
 
@@ -76,8 +80,11 @@ module _ (t codes operands : List ℕ) (cut : Cut t codes operands) where
         let k : 0 + length (map Formal (formals d)) ≡ h .formals = omega (arith, many x) in
         out (h .formals) (encode (body d)) (subst (λ k. Spells (codesIn t) (operandsIn t) k (encode (body d))) k (spells-back (codesIn t) (operandsIn t) 0 (map Formal (formals d)) (encode (body d)) (facts x .spells)))
 
+    passed : Sized t → h .height ≡ 0 → AllRight codes operands (h .formals) → Passed t
+    passed s flat all = record { sized = s; head = flat-head flat; right = all-in all }
+
     refuse-shape : Sized t → h .height ≡ 0 → AllRight codes operands (h .formals) → ((d : Definition) → IsTable t d → ⊥) → Refused t (told Shape) × NoTable t
-    refuse-shape s flat all never = (SHAPE s (flat-head flat) (all-in all) never, λ d w is. never d (table-of w is))
+    refuse-shape s flat all never = (SHAPE (passed s flat all) never, λ d w is. never d (table-of w is))
 
     pub no-body : Sized t → h .height ≡ 0 → AllRight codes operands (h .formals) → NoExp codes operands (h .formals) → Refused t (told Shape) × NoTable t
     no-body s flat all never = refuse-shape s flat all (λ d x. never (body d) (body-spelt x))
@@ -125,19 +132,21 @@ module _ (t codes operands : List ℕ) (cut : Cut t codes operands) where
       pub refuse-twice : Repeated operands (h .formals) → Refused t (told Twice) × NoTable t
       refuse-twice r =
           let never = not-distinct (m .table) r in
-          (TWICE (m .table) never, λ d w is. never (subst (λ c. Distinct (formals c)) (only d (table-of w is)) (w .distinct)))
+          (TWICE (passes (m .table)) (m .table) never, λ d w is. never (subst (λ c. Distinct (formals c)) (only d (table-of w is)) (w .distinct)))
 
       pub refuse-nest : NoneRepeated operands (h .formals) → 200 < x .depth → Refused t (told Nest) × NoTable t
       refuse-nest none deep =
           let never : Shallow (m .definition) → ⊥ = λ s. omega (arith, m .deep) in
-          (NEST (m .table) (distinct-from (m .table) none) never, λ d w is. never (subst Shallow (only d (table-of w is)) (w .shallow)))
+          (NEST (passes (m .table)) (m .table) (distinct-from (m .table) none) never, λ d w is. never (subst Shallow (only d (table-of w is)) (w .shallow)))
 
-      pub accepted : (r : Table) → r .header ≡ h → NoneRepeated operands (h .formals) → x .depth ≤ 200 → Accepted t r
-      accepted r same none shallow =
+      pub accepted : (r : Table) → r .header ≡ h → now (r .cells .codes) ≡ codes → now (r .cells .operands) ≡ operands → NoneRepeated operands (h .formals) → x .depth ≤ 200 → Accepted t r
+      accepted r same same-codes same-operands none shallow =
           record {
             definition = m .definition;
             within = record { fits = m .table .fits; distinct = distinct-from (m .table) none; shallow = omega (arith, m .deep) };
             is = m .table .is;
             only = only;
             header = same ∙ m .header;
+            codes = same-codes ∙ cut .codes-are;
+            operands = same-operands ∙ cut .operands-are;
           }

@@ -1,3 +1,3 @@
 pub mod Tables
 pub mod Verdict
-pub mod Walks
+pub mod Reading

@@ -5,7 +5,7 @@ ghost use lib.ListN.{length};
 ghost use Rattle.std.specs.Options.{Cases};
 ghost use Rattle.std.specs.Orderings.{When};
 ghost use Rattle.translator.specs.Tables.{Right, AllRight, FirstWrong};
-ghost use Rattle.translator.specs.Walks.{Parallel, Same, Earlier, NoEarlier, Repeated, NoneRepeated};
+ghost use Rattle.translator.specs.Reading.{Parallel, Same, Earlier, NoEarlier, Repeated, NoneRepeated};
 use format::cell::Cell;
 use format::layout::Layout;
 

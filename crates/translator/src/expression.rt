@@ -1,7 +1,7 @@
 // Expressions in prefix order.
 ghost use mathlib.Core.Path.{_≡_};
 ghost use Rattle.std.specs.Options.{Cases};
-ghost use Rattle.translator.specs.Walks.{Parallel, ExpAt, NoExp, ExpsAt, NoExps};
+ghost use Rattle.translator.specs.Reading.{Parallel, ExpAt, NoExp, ExpsAt, NoExps};
 use format::cell::Cell;
 use format::layout::Layout;
 

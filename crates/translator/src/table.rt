@@ -1,5 +1,5 @@
 // The check of a table.
-ghost use Rattle.translator.specs.Verdict.{Verdict};
+ghost use Rattle.translator.specs.Verdict.{Answered};
 use crate::cells::first_wrong;
 use crate::cells::has_repeated;
 use crate::expression::read_expression;
@@ -18,7 +18,7 @@ pub struct Table<'a> {
 
 // The table that the bytes are, or the first thing that is wrong with them.
 pub fn accept(table: &[u8]) -> Result<Table<'_>, Refusal>
-    ensures { λ r. ⌜ Verdict (now (table .entry)) r ⌝ }
+    ensures { λ r. ⌜ Answered (now (table .entry)) r ⌝ }
 {
     let Some(cells) = Layout::cut(table) else {
         return Err(Refusal::Size);

@@ -1,4 +1,4 @@
-use Rattle.translator.specs.Walks.{NoneRepeated}
+use Rattle.translator.specs.Reading.{NoneRepeated}
 use Rattle.translator.proofs.cells.has_repeated.Given as given
 
 abbrev pub Inv-loop-i : given.InvT-loop-i

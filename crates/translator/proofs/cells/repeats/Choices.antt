@@ -1,5 +1,5 @@
 use Prim.Native.Nat.{ℕ, _<_}
-use Rattle.translator.specs.Walks.{Same}
+use Rattle.translator.specs.Reading.{Same}
 use Rattle.translator.proofs.cells.repeats.Given as given
 
 abbrev pub Inv-loop-j : given.InvT-loop-j

@@ -1,27 +1,28 @@
-use mathlib.Core.Path.{refl, sym, _∙_}
+use mathlib.Core.Path.{refl, _∙_}
 use native.Mathlib.Omega.{arith}
 use Rattle.translator.proofs.Steps.{end-within}
-use Rattle.translator.proofs.Verdicts.{refuse-size, refuse-head, some-sized, sized-some, parallel, flat-head, refuse-cell, no-body, left-over, refuse-twice, refuse-nest, accepted}
 use Rattle.translator.proofs.Made.{made}
+use Rattle.translator.proofs.Verdicts.{refuse-size, refuse-head, some-sized, sized-some, parallel, refuse-cell, no-body, left-over, refuse-twice, refuse-nest, accepted}
+use Rattle.translator.proofs.Once.{answered}
 use Rattle.translator.proofs.table.accept.Needs as need
 
 pub returns-in-rest : need.returns-in-rest
-returns-in-rest c = refuse-size _ (λ s. c .in-rest .ensures tt (s .whole))
+returns-in-rest c = answered _ _ (refuse-size _ (λ s. c .in-rest .ensures tt (s .whole)))
 
 pub returns-then-count-eq0 : need.returns-then-count-eq0
 returns-then-count-eq0 c =
-    refuse-size _ (λ s. let b = sized-some _ _ _ (c .in-Some .ensures tt) s in omega (arith, c .then-count-eq0 .either))
+    answered _ _ (refuse-size _ (λ s. let b = sized-some _ _ _ (c .in-Some .ensures tt) s in omega (arith, c .then-count-eq0 .either)))
 
 pub returns-in-rest-read : need.returns-in-rest-read
 returns-in-rest-read c =
     let cut = c .in-Some .ensures tt in
-    refuse-head _ (some-sized _ _ _ cut (omega arith) (omega arith)) (λ h. c .in-rest-read .ensures tt (cut .whole .headed) (h .headed))
+    answered _ _ (refuse-head _ (some-sized _ _ _ cut (omega arith) (omega arith)) (λ h. c .in-rest-read .ensures tt (cut .whole .headed) (h .headed)))
 
 pub returns-then-header-ne0 : need.returns-then-header-ne0
 returns-then-header-ne0 c =
     let cut = c .in-Some .ensures tt in
     let at = c .in-Some-read .ensures tt in
-    refuse-head _ (some-sized _ _ _ cut (omega arith) (omega arith)) (λ h. c .if-header-ne0 .taken (at .height ∙ h .flat))
+    answered _ _ (refuse-head _ (some-sized _ _ _ cut (omega arith) (omega arith)) (λ h. c .if-header-ne0 .taken (at .height ∙ h .flat)))
 
 pub first-wrong-requires : need.first-wrong-requires
 first-wrong-requires c κs = parallel _ _ _ (c .in-Some .ensures tt) (omega arith)
@@ -29,7 +30,7 @@ first-wrong-requires c κs = parallel _ _ _ (c .in-Some .ensures tt) (omega arit
 pub returns-in-Some-first-wrong : need.returns-in-Some-first-wrong
 returns-in-Some-first-wrong c =
     let cut = c .in-Some .ensures tt in
-    refuse-cell _ _ _ cut _ (c .in-Some-read .ensures tt) (some-sized _ _ _ cut (omega arith) (omega arith)) (c .if-header-ne0 .left) (c .in-Some-first-wrong .ensures tt)
+    answered _ _ (refuse-cell _ _ _ cut _ (c .in-Some-read .ensures tt) (some-sized _ _ _ cut (omega arith) (omega arith)) (c .if-header-ne0 .left) (c .in-Some-first-wrong .ensures tt))
 
 pub read-expression-requires : need.read-expression-requires
 read-expression-requires c κs = parallel _ _ _ (c .in-Some .ensures tt) (omega arith)
@@ -37,15 +38,16 @@ read-expression-requires c κs = parallel _ _ _ (c .in-Some .ensures tt) (omega 
 pub returns-in-rest-read-expression : need.returns-in-rest-read-expression
 returns-in-rest-read-expression c =
     let cut = c .in-Some .ensures tt in
-    no-body _ _ _ cut _ (c .in-Some-read .ensures tt) (some-sized _ _ _ cut (omega arith) (omega arith)) (c .if-header-ne0 .left) (c .in-rest-first-wrong .ensures tt) (c .in-rest-read-expression .ensures tt)
+    answered _ _ (no-body _ _ _ cut _ (c .in-Some-read .ensures tt) (some-sized _ _ _ cut (omega arith) (omega arith)) (c .if-header-ne0 .left) (c .in-rest-first-wrong .ensures tt) (c .in-rest-read-expression .ensures tt))
 
 pub returns-then-body-count : need.returns-then-body-count
 returns-then-body-count c =
     let cut = c .in-Some .ensures tt in
-    left-over _ _ _ cut _ (c .in-Some-read .ensures tt) (c .in-Some-read-expression .body) (some-sized _ _ _ cut (omega arith) (omega arith)) (c .if-header-ne0 .left) (c .in-rest-first-wrong .ensures tt) (c .in-Some-read-expression .ensures tt) (omega arith)
+    answered _ _ (left-over _ _ _ cut _ (c .in-Some-read .ensures tt) (c .in-Some-read-expression .body) (some-sized _ _ _ cut (omega arith) (omega arith)) (c .if-header-ne0 .left) (c .in-rest-first-wrong .ensures tt) (c .in-Some-read-expression .ensures tt) (omega arith))
 
 pub has-repeated-requires : need.has-repeated-requires
-has-repeated-requires c κs = record { parallel = parallel _ _ _ (c .in-Some .ensures tt) (omega arith); within = c .in-rest-first-wrong .ensures tt .enough }
+has-repeated-requires c κs =
+    record { parallel = parallel _ _ _ (c .in-Some .ensures tt) (omega arith); within = c .in-rest-first-wrong .ensures tt .enough }
 
 pub returns-then-has-repeated : need.returns-then-has-repeated
 returns-then-has-repeated c =
@@ -53,7 +55,7 @@ returns-then-has-repeated c =
     let at = c .in-Some-read .ensures tt in
     let exp = c .in-Some-read-expression .ensures tt in
     let m = made _ _ _ _ (c .in-Some-read-expression .body) cut (parallel _ _ _ cut (omega arith)) at (c .if-header-ne0 .left) exp (omega arith) (end-within _ _ _ _ exp) (c .in-rest-first-wrong .ensures tt) in
-    refuse-twice _ _ _ cut _ at _ m (c .if-has-repeated .ensures tt)
+    answered _ _ (refuse-twice _ _ _ cut _ at _ m (c .if-has-repeated .ensures tt))
 
 pub returns-then-body-gt-MAX-DEPTH : need.returns-then-body-gt-MAX-DEPTH
 returns-then-body-gt-MAX-DEPTH c =
@@ -61,7 +63,7 @@ returns-then-body-gt-MAX-DEPTH c =
     let at = c .in-Some-read .ensures tt in
     let exp = c .in-Some-read-expression .ensures tt in
     let m = made _ _ _ _ (c .in-Some-read-expression .body) cut (parallel _ _ _ cut (omega arith)) at (c .if-header-ne0 .left) exp (omega arith) (end-within _ _ _ _ exp) (c .in-rest-first-wrong .ensures tt) in
-    refuse-nest _ _ _ cut _ at _ m (c .if-has-repeated .ensures tt) (c .if-body-gt-MAX-DEPTH .taken)
+    answered _ _ (refuse-nest _ _ _ cut _ at _ m (c .if-has-repeated .ensures tt) (c .if-body-gt-MAX-DEPTH .taken))
 
 pub returns : need.returns
 returns c =
@@ -69,4 +71,4 @@ returns c =
     let at = c .in-Some-read .ensures tt in
     let exp = c .in-Some-read-expression .ensures tt in
     let m = made _ _ _ _ (c .in-Some-read-expression .body) cut (parallel _ _ _ cut (omega arith)) at (c .if-header-ne0 .left) exp (omega arith) (end-within _ _ _ _ exp) (c .in-rest-first-wrong .ensures tt) in
-    accepted _ _ _ cut _ at _ m _ refl (c .if-has-repeated .ensures tt) (c .if-body-gt-MAX-DEPTH .left)
+    answered _ _ (accepted _ _ _ cut _ at _ m _ refl refl refl (c .if-has-repeated .ensures tt) (c .if-body-gt-MAX-DEPTH .left))
