@@ -52,6 +52,7 @@ sum n lt =
   where
     whole : (m : ℕ) → m ≡ m % 256 + m / 256 * 256
     whole m = omega arith
+
     rest : (m : ℕ) → m < 256 → m % 256 ≡ m
     rest m h = omega arith
 

@@ -12,6 +12,7 @@ use language::NAMES;
 
 // A variable's number, and a function's: 0 to 63.
 pub type Variable = u8;
+
 pub type Function = u8;
 
 #[derive(Clone, Copy)]

@@ -1,11 +1,9 @@
 // The bytes of a table or an image, cut into their two arrays.
 ghost use mathlib.Core.Path.{_≡_};
-ghost use Prim.Native.Nat.{_+_, _*_, _<_, _≤_};
-ghost use mathlib.Core.Logic.{_⊎_};
-ghost use lib.ListN.{length, getD};
+ghost use Prim.Native.Nat.{_+_, _≤_};
+ghost use lib.ListN.{length};
 ghost use Rattle.std.specs.Options.{Cases};
-ghost use Rattle.format.specs.Layout.{codesIn, operandsIn};
-ghost use Rattle.format.specs.Rows.{Whole, Cut, NumberAt, RowAt, NoRow};
+ghost use Rattle.format.specs.Rows.{codesOf, operandsOf, Whole, Cut, ValueAt, RowAt, NoRow};
 
 #[derive(Clone, Copy)]
 pub struct Layout<'a> {
@@ -23,7 +21,7 @@ pub struct Row {
 impl<'a> Layout<'a> {
     // None where the bytes are not as many as their header says.
     pub fn cut(bytes: &'a [u8]) -> Option<Layout<'a>>
-        ensures { λ r. ⌜ Cases r (Whole (now (bytes .entry)) → ⊥) (λ l. Cut (now (bytes .entry)) (now (l .codes)) (now (l .operands))) ⌝ }
+        ensures { λ r. ⌜ Cases r (Whole (now (bytes .entry)) → ⊥) (λ l. Cut (now (bytes .entry)) (codesOf l) (operandsOf l)) ⌝ }
     {
         if bytes.len() < 8 {
             return None;
@@ -39,14 +37,14 @@ impl<'a> Layout<'a> {
     }
 
     pub fn len(&self) -> usize
-        ensures { λ r. ⌜ r ≡ length (now (now (self .entry) .codes)) ⌝ }
+        ensures { λ r. ⌜ r ≡ length (codesOf (now (self .entry))) ⌝ }
     {
         self.codes.len()
     }
 
     // The row at `i`, or None past the end of either array.
     pub fn row(&self, i: u16) -> Option<Row>
-        ensures { λ r. ⌜ Cases r (NoRow (now (now (self .entry) .codes)) (now (now (self .entry) .operands)) i) (RowAt (now (now (self .entry) .codes)) (now (now (self .entry) .operands)) i) ⌝ }
+        ensures { λ r. ⌜ Cases r (NoRow (codesOf (now (self .entry))) (operandsOf (now (self .entry))) i) (RowAt (codesOf (now (self .entry))) (operandsOf (now (self .entry))) i) ⌝ }
     {
         let i = i as usize;
         if i >= self.codes.len() || 4 * i + 4 > self.operands.len() {
@@ -61,7 +59,7 @@ impl<'a> Layout<'a> {
 
 fn read_i32(bytes: &[u8], at: usize) -> i32
     requires { ⌜ at + 4 ≤ length (now bytes) ⌝ }
-    ensures { λ r. ⌜ NumberAt (now (bytes .entry)) at r ⌝ }
+    ensures { λ r. ⌜ ValueAt (now (bytes .entry)) at r ⌝ }
 {
     i32::from_le_bytes([bytes[at], bytes[at + 1], bytes[at + 2], bytes[at + 3]])
 }

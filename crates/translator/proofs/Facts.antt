@@ -108,4 +108,4 @@ one-definition {t} {c} {d} x y =
     let names : xs ≡ ys = same-cells codes operands 0 xs ys (omega (arith, lx, ly, many)) (spells-front codes operands 0 xs (encode (body c)) (p .spells)) (spells-front codes operands 0 ys (encode (body d)) (q .spells)) in
     let after : Spells codes operands (0 + length xs) (encode (body d)) = subst (λ k. Spells codes operands (0 + k) (encode (body d))) (let z : length ys ≡ length xs = omega (arith, lx, ly, many) in z) (spells-back codes operands 0 ys (encode (body d)) (q .spells)) in
     joined c d (sym (p .kind) ∙ q .kind) (sym (p .number-is) ∙ q .number-is) (same-names (formals c) (formals d) names)
-        (one-exp codes operands (0 + length xs) (body c) (body d) (spells-back codes operands 0 xs (encode (body c)) (p .spells)) after)
+    (one-exp codes operands (0 + length xs) (body c) (body d) (spells-back codes operands 0 xs (encode (body c)) (p .spells)) after)

@@ -75,9 +75,10 @@ header-is t codes operands h cut at flat =
 
 pub sizes : (t codes operands : List ℕ) → Cut t codes operands → (length codes ≡ countIn t) × (length operands ≡ 4 * countIn t)
 sizes t codes operands cut =
-    let w = cut .whole in
-    ( ap length (cut .codes-are) ∙ length-take (countIn t) (drop 8 t) ∙ omega (arith, length-drop 8 t, w .long)
-    , ap length (cut .operands-are) ∙ length-drop (8 + countIn t) t ∙ omega (arith, w .long) )
+    let w = cut .whole in (
+      ap length (cut .codes-are) ∙ length-take (countIn t) (drop 8 t) ∙ omega (arith, length-drop 8 t, w .long),
+      ap length (cut .operands-are) ∙ length-drop (8 + countIn t) t ∙ omega (arith, w .long),
+    )
 
 -- the whole
 pub layout-is : (t codes operands : List ℕ) (h : Header) (cs : List Cell) → Cut t codes operands → HeaderAt t h → h .height ≡ 0 → length cs ≡ length codes → Spells codes operands 0 cs → t ≡ layout h (map code cs) (map operand cs)
@@ -141,12 +142,12 @@ module _ (t codes operands : List ℕ) (h : Header) (x : Extent) (cut : Cut t co
       let many : length (formals d) ≡ h .formals = ap length (p .formals-are) ∙ ns .many in
       let size-is : size (body d) ≡ size e = ap size (p .body-is) in
       let fits : Fits d = record {
-            numbered = omega (arith, p .number-is, at .number, at .headed .number);
-            few = omega (arith, many, at .formals, fewer (at .headed .kind), at .headed .formals);
-            named = subst AreNames (sym (p .formals-are)) (valid-names xs (valid-front (map Formal xs) (encode e) valid));
-            ranged = subst InRange (sym (p .body-is)) (valid-ranged e (valid-back (map Formal xs) (encode e) valid));
-            sized = omega (arith, many, size-is, encode-size e, exp .past, par .few);
-          } in
+        numbered = omega (arith, p .number-is, at .number, at .headed .number);
+        few = omega (arith, many, at .formals, fewer (at .headed .kind), at .headed .formals);
+        named = subst AreNames (sym (p .formals-are)) (valid-names xs (valid-front (map Formal xs) (encode e) valid));
+        ranged = subst InRange (sym (p .body-is)) (valid-ranged e (valid-back (map Formal xs) (encode e) valid));
+        sized = omega (arith, many, size-is, encode-size e, exp .past, par .few);
+      } in
       record {
         definition = d;
         table = record { fits = fits; is = layout-is t codes operands h cs cut at flat long spells ∙ (λ i. layout (header i) (map code (same i)) (map operand (same i))) };

@@ -30,8 +30,8 @@ module _ (codes operands : List ℕ) (n : ℕ) where
   one-wrong : {i j : ℕ} → FirstWrong codes operands n i → FirstWrong codes operands n j → i ≡ j
   one-wrong {i} {j} x y =
       elim (decLt i j) [
-        yes lt ↦ absurd (not-later x y lt)
-      | no ge ↦ elim (decLt j i) [ yes lt ↦ absurd (not-later y x lt) | no le ↦ omega arith ]
+        | yes lt ↦ absurd (not-later x y lt)
+        | no ge ↦ elim (decLt j i) [ yes lt ↦ absurd (not-later y x lt) | no le ↦ omega arith ]
       ]
 
 module _ (t : List ℕ) where

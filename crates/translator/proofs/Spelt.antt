@@ -45,6 +45,7 @@ mutual
   ranged-valid (WHILE c b) h = (tt, valid-append (encode c) _ (ranged-valid c (h .0)) (ranged-valid b (h .1)))
   ranged-valid (BEGIN es) h = (h .0, rangeds-valid es (h .1))
   ranged-valid (APPLY f es) h = ((h .0, h .1), rangeds-valid es (h .2))
+
   rangeds-valid : (es : Exps) → AllInRange es → AllValid (encodes es)
   rangeds-valid nil h = tt
   rangeds-valid (cons e es) h = valid-append (encode e) _ (ranged-valid e (h .0)) (rangeds-valid es (h .1))
@@ -60,6 +61,7 @@ mutual
   valid-ranged (WHILE c b) h = (valid-ranged c (valid-front (encode c) (encode b) (h .1)), valid-ranged b (valid-back (encode c) (encode b) (h .1)))
   valid-ranged (BEGIN es) h = (h .0, valids-ranged es (h .1))
   valid-ranged (APPLY f es) h = (h .0 .0, h .0 .1, valids-ranged es (h .1))
+
   valids-ranged : (es : Exps) → AllValid (encodes es) → AllInRange es
   valids-ranged nil h = tt
   valids-ranged (cons e es) h = (valid-ranged e (valid-front (encode e) (encodes es) h), valids-ranged es (valid-back (encode e) (encodes es) h))
@@ -91,6 +93,7 @@ mutual
   no-formals (WHILE c b) = (refl, none-append (encode c) _ (no-formals c) (no-formals b))
   no-formals (BEGIN es) = (refl, no-formals-in es)
   no-formals (APPLY f es) = (refl, no-formals-in es)
+
   no-formals-in : (es : Exps) → NoFormals (encodes es)
   no-formals-in nil = tt
   no-formals-in (cons e es) = none-append (encode e) _ (no-formals e) (no-formals-in es)

@@ -81,10 +81,11 @@ module _ (codes operands : List ℕ) where
 
   -- bounds
   pub exp-bounds : (at : ℕ) (p : Extent) → ExpAt codes operands at p → (at < length codes) × (at < p .«end») × (p .depth + at ≤ p .«end»)
-  exp-bounds at p x =
-      ( first (x .e) (x .spells) .0 .within
-      , omega (arith, x .past, encode-size (x .e), size-some (x .e))
-      , omega (arith, x .past, x .deep, encode-size (x .e), depth-bound (x .e)) )
+  exp-bounds at p x = (
+    first (x .e) (x .spells) .0 .within,
+    omega (arith, x .past, encode-size (x .e), size-some (x .e)),
+    omega (arith, x .past, x .deep, encode-size (x .e), depth-bound (x .e)),
+  )
 
   pub exps-bounds : (at n : ℕ) (p : Extent) → ExpsAt codes operands at n p → p .depth + at ≤ p .«end»
   exps-bounds at n p x = omega (arith, x .past, x .deep, encodes-size (x .es), depths-bound (x .es))

@@ -134,6 +134,7 @@ mutual
       ap (push While) e₁
   build-encode (BEGIN es) cs = ap (push (Begin (count es))) (build-encodes es cs) ∙ (λ i. cons (BEGIN (takes-joins es (build cs) i)) (drops-joins es (build cs) i))
   build-encode (APPLY f es) cs = ap (push (Apply f (count es))) (build-encodes es cs) ∙ (λ i. cons (APPLY f (takes-joins es (build cs) i)) (drops-joins es (build cs) i))
+
   build-encodes : (es : Exps) (cs : List Cell) → build (encodes es ++ cs) ≡ joins es (build cs)
   build-encodes nil cs = refl
   build-encodes (cons e es) cs = simp append-assoc (build-encode e (encodes es ++ cs) ∙ ap (cons e) (build-encodes es cs))
@@ -154,6 +155,7 @@ mutual
   encode-size (WHILE c b) = simp length-append (omega (arith, encode-size c, encode-size b))
   encode-size (BEGIN es) = ap suc (encodes-size es)
   encode-size (APPLY f es) = ap suc (encodes-size es)
+
   pub encodes-size : (es : Exps) → length (encodes es) ≡ sizes es
   encodes-size nil = refl
   encodes-size (cons e es) = simp length-append (omega (arith, encode-size e, encodes-size es))
@@ -167,6 +169,7 @@ mutual
   depth-bound (WHILE c b) = omega (arith, depth-bound c, depth-bound b)
   depth-bound (BEGIN es) = omega (arith, depths-bound es)
   depth-bound (APPLY f es) = omega (arith, depths-bound es)
+
   pub depths-bound : (es : Exps) → depths es ≤ sizes es
   depths-bound nil = omega arith
   depths-bound (cons e es) = omega (arith, depth-bound e, depths-bound es)

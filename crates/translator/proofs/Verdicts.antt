@@ -4,7 +4,6 @@ use mathlib.Core.Logic.{_⊎_, inl, inr}
 use mathlib.Core.List.{List, [], _∷_, _++_, map}
 use Prim.Native.Nat.{ℕ, zero, suc, _+_, _*_, _≤_, _<_}
 use native.Mathlib.Omega.{arith}
-use denote.Ref.{now}
 use lib.IntN.{ℤ, pos}
 use lib.ListN.{length, getD, take, drop}
 use Rattle.std.proofs.shelf.Lists.{length-map}
@@ -17,7 +16,7 @@ use Rattle.format.specs.declared.refusal.Refusal.the-variants.{Size, Head, Cell
 use Rattle.format.specs.Refusals.{told}
 use Rattle.format.specs.Layout.{bytes4, u16At, countIn, codesIn, operandsIn}
 use Rattle.format.specs.Headers.{Headed, HeaderAt}
-use Rattle.format.specs.Rows.{Whole, Cut}
+use Rattle.format.specs.Rows.{codesOf, operandsOf, Whole, Cut}
 use Rattle.format.specs.Cells.{encode, headerOf, tableOf}
 use Rattle.format.proofs.Bytes.{bytes4-injective}
 use Rattle.translator.specs.declared.expression.Extent.{Extent}
@@ -93,9 +92,9 @@ module _ (t codes operands : List ℕ) (cut : Cut t codes operands) where
     left-over x s flat all exp short =
         refuse-shape s flat all
         (λ d y.
-            let same : body d ≡ exp .e = one-exp codes operands (h .formals) (body d) (exp .e) (body-spelt y) (exp .spells) in
-            let long : length codes ≡ length (formals d) + length (encode (body d)) = ap length (cut .codes-are) ∙ facts y .long in
-            omega (arith, long, ap (λ e. length (encode e)) same, exp .past, facts y .many, at .formals))
+        let same : body d ≡ exp .e = one-exp codes operands (h .formals) (body d) (exp .e) (body-spelt y) (exp .spells) in
+        let long : length codes ≡ length (formals d) + length (encode (body d)) = ap length (cut .codes-are) ∙ facts y .long in
+        omega (arith, long, ap (λ e. length (encode e)) same, exp .past, facts y .many, at .formals))
 
     formal-at : (codes operands : List ℕ) (at : ℕ) (xs : List ℕ) (k : ℕ) → k < length xs → Spells codes operands at (map Formal xs) → CellAt codes operands (at + k) (Formal (getD xs k 0))
     formal-at codes operands at [] k h x = absurd (omega arith)
@@ -139,7 +138,7 @@ module _ (t codes operands : List ℕ) (cut : Cut t codes operands) where
           let never : Shallow (m .definition) → ⊥ = λ s. omega (arith, m .deep) in
           (NEST (passes (m .table)) (m .table) (distinct-from (m .table) none) never, λ d w is. never (subst Shallow (only d (table-of w is)) (w .shallow)))
 
-      pub accepted : (r : Table) → r .header ≡ h → now (r .cells .codes) ≡ codes → now (r .cells .operands) ≡ operands → NoneRepeated operands (h .formals) → x .depth ≤ 200 → Accepted t r
+      pub accepted : (r : Table) → r .header ≡ h → codesOf (r .cells) ≡ codes → operandsOf (r .cells) ≡ operands → NoneRepeated operands (h .formals) → x .depth ≤ 200 → Accepted t r
       accepted r same same-codes same-operands none shallow =
           record {
             definition = m .definition;

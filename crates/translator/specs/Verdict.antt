@@ -2,7 +2,6 @@
 use mathlib.Core.Path.{_≡_}
 use mathlib.Core.List.{List}
 use Prim.Native.Nat.{ℕ}
-use denote.Ref.{now}
 use Rattle.std.specs.declared.result.Result.{Result}
 use Rattle.std.specs.declared.result.Result.the-variants.{Ok, Err}
 use Rattle.language.specs.Tree.{Definition, formals}
@@ -12,6 +11,7 @@ use Rattle.format.specs.declared.refusal.Refusal.{Refusal}
 use Rattle.format.specs.declared.refusal.Refusal.the-variants.{Size, Head, Cell, Shape, Twice, Nest}
 use Rattle.format.specs.Refusals.{Told, told}
 use Rattle.format.specs.Layout.{codesIn, operandsIn}
+use Rattle.format.specs.Rows.{codesOf, operandsOf}
 use Rattle.format.specs.Cells.{headerOf, tableOf}
 use Rattle.translator.specs.declared.table.Table.{Table}
 use Rattle.translator.specs.Tables.{Sized, TableHead, formalsIn, AllRight, FirstWrong, IsTable}
@@ -38,8 +38,8 @@ pub record Accepted (t : List ℕ) (r : Table) : Type 0 where
   pub is : t ≡ tableOf definition
   pub only : (d : Definition) → IsTable t d → d ≡ definition
   pub header : r .header ≡ headerOf definition
-  pub codes : now (r .cells .codes) ≡ codesIn t
-  pub operands : now (r .cells .operands) ≡ operandsIn t
+  pub codes : codesOf (r .cells) ≡ codesIn t
+  pub operands : operandsOf (r .cells) ≡ operandsIn t
 
 abbrev pub NoTable : List ℕ → Type 0
 NoTable t = (d : Definition) → Within d → t ≡ tableOf d → ⊥

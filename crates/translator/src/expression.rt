@@ -1,6 +1,7 @@
 // Expressions in prefix order.
 ghost use mathlib.Core.Path.{_≡_};
 ghost use Rattle.std.specs.Options.{Cases};
+ghost use Rattle.format.specs.Rows.{codesOf, operandsOf};
 ghost use Rattle.translator.specs.Reading.{Parallel, ExpAt, NoExp, ExpsAt, NoExps};
 use format::cell::Cell;
 use format::layout::Layout;
@@ -14,8 +15,8 @@ pub(crate) struct Extent {
 
 // The expression that begins at `at`, or None where none does.
 pub(crate) fn read_expression(cells: &Layout, at: u16) -> Option<Extent>
-    requires { ⌜ Parallel (now (now cells .codes)) (now (now cells .operands)) ⌝ }
-    ensures { λ r. ⌜ Cases r (NoExp (now (now (cells .entry) .codes)) (now (now (cells .entry) .operands)) at) (ExpAt (now (now (cells .entry) .codes)) (now (now (cells .entry) .operands)) at) ⌝ }
+    requires { ⌜ Parallel (codesOf (now cells)) (operandsOf (now cells)) ⌝ }
+    ensures { λ r. ⌜ Cases r (NoExp (codesOf (now (cells .entry))) (operandsOf (now (cells .entry))) at) (ExpAt (codesOf (now (cells .entry))) (operandsOf (now (cells .entry))) at) ⌝ }
 {
     let cell = Cell::read(cells.row(at)?)?;
     let inner = read_parts(cells, at + 1, cell.parts()?)?;
@@ -27,8 +28,8 @@ pub(crate) fn read_expression(cells: &Layout, at: u16) -> Option<Extent>
 
 // The `count` expressions that begin at `at`, one after the other, or None where there are fewer.
 fn read_parts(cells: &Layout, at: u16, count: u16) -> Option<Extent>
-    requires { ⌜ Parallel (now (now cells .codes)) (now (now cells .operands)) ⌝ }
-    ensures { λ r. ⌜ Cases r (NoExps (now (now (cells .entry) .codes)) (now (now (cells .entry) .operands)) at count) (ExpsAt (now (now (cells .entry) .codes)) (now (now (cells .entry) .operands)) at count) ⌝ }
+    requires { ⌜ Parallel (codesOf (now cells)) (operandsOf (now cells)) ⌝ }
+    ensures { λ r. ⌜ Cases r (NoExps (codesOf (now (cells .entry))) (operandsOf (now (cells .entry))) at count) (ExpsAt (codesOf (now (cells .entry))) (operandsOf (now (cells .entry))) at count) ⌝ }
 {
     if count == 0 {
         return Some(Extent { end: at, depth: 0 });
