@@ -1,19 +1,17 @@
 // The cells of a table.
 ghost use mathlib.Core.Path.{_≡_};
-ghost use Prim.Native.Nat.{_≤_};
-ghost use lib.IntN.{pos};
 ghost use Rattle.std.specs.Options.{Cases};
 ghost use Rattle.format.specs.Cells.{NoCell, IsCell, parts, isFormal};
 ghost use Rattle.format.specs.Others.{NoOther, IsOther};
 use crate::layout::Row;
+use language::Function;
 use language::MAX_ARGUMENTS;
 use language::MAX_PARTS;
 use language::NAMES;
+use language::Variable;
 
-// A variable's number, and a function's: 0 to 63.
-pub type Variable = u8;
-
-pub type Function = u8;
+// An APPLY's operand is its function times this, plus the number of its arguments.
+const CALL_BASE: u16 = MAX_ARGUMENTS + 1;
 
 #[derive(Clone, Copy)]
 pub enum Cell {
@@ -53,9 +51,10 @@ impl Cell {
             3 if operand == 0 => Some(Cell::If),
             4 if operand == 0 => Some(Cell::While),
             5 if operand <= MAX_PARTS => Some(Cell::Begin(operand)),
-            6 if operand < 16 * NAMES as u16 => {
-                Some(Cell::Apply((operand / 16) as u8, (operand % 16) as u8))
-            }
+            6 if operand < NAMES as u16 * CALL_BASE => Some(Cell::Apply(
+                (operand / CALL_BASE) as u8,
+                (operand % CALL_BASE) as u8,
+            )),
             7 if operand < NAMES as u16 => Some(Cell::Formal(operand as u8)),
             _ => None,
         }

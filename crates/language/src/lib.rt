@@ -1,5 +1,9 @@
 // The limits of Impcore's definitions. The language itself is in specs/.
 
+pub type Variable = u8;
+
+pub type Function = u8;
+
 // Variables are numbered below this, and so are functions.
 pub const NAMES: u8 = 64;
 

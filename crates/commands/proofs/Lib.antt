@@ -1,0 +1,4 @@
+pub mod Digit
+pub mod Decoding
+pub mod Splitting
+pub mod Parsing
