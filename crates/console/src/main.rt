@@ -1,4 +1,5 @@
 // Reads commands from standard input, one to a line, and writes the answer to each on a line.
+ghost use Rattle.console.specs.Runs.{Answers};
 use commands::answer::Answer;
 use commands::answer::AnswerDisplay;
 use commands::command::Command;
@@ -10,7 +11,9 @@ use std::io::BufReader;
 use std::io::BufWriter;
 use std::io::Write;
 
-fn run(command: Command) -> Answer {
+fn run(command: Command) -> Answer
+    ensures { λ r. ⌜ Answers command r ⌝ }
+{
     match command {
         Command::Table(bytes) => match translator::accept(&bytes) {
             Ok(_) => Answer::Accepted,
