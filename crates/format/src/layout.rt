@@ -47,7 +47,7 @@ impl<'a> Layout<'a> {
         ensures { λ r. ⌜ Cases r (NoRow (codesOf (now (self .entry))) (operandsOf (now (self .entry))) i) (RowAt (codesOf (now (self .entry))) (operandsOf (now (self .entry))) i) ⌝ }
     {
         let i = i as usize;
-        if i >= self.codes.len() || 4 * i + 4 > self.operands.len() {
+        if i >= self.len() || 4 * i + 4 > self.operands.len() {
             return None;
         }
         Some(Row {
