@@ -1,8 +1,7 @@
 -- Little-endian numbers and their bytes.
-use mathlib.Core.Path.{_≡_, refl, sym, ap, _∙_}
-use mathlib.Core.List.{List, [], _∷_, _++_}
+use mathlib.Core.Path.{_≡_, sym, ap, _∙_}
+use mathlib.Core.List.{List, [], _∷_}
 use Prim.Native.Nat.{ℕ, _+_, _*_, _/_, _%_, _^_, _≤_, _<_}
-use native.Mathlib.Nat.{add-zero}
 use native.Mathlib.Omega.{arith}
 use lib.IntN.{ℤ, pos, negsuc}
 use lib.ListN.{length, drop, take, getD}
@@ -12,7 +11,7 @@ use mir.ValLaws.{ofZ-fits}
 use Rattle.std.proofs.shelf.Lists.{drop-more}
 use Rattle.std.proofs.shelf.Signed.{toZ-ofZ, ofZ-toZ}
 use Rattle.language.specs.Limits.{IsValue}
-use Rattle.format.specs.Layout.{bytes2, bytes4, u16At}
+use Rattle.format.specs.Layout.{bytes2, bytes4}
 
 pub value-fits : (v : ℤ) → IsValue v → SFits w32 v
 value-fits (pos n) h = record { sfits = h }

@@ -1,7 +1,7 @@
 -- What the header of a table and that of an image have in common.
 use mathlib.Core.Path.{_≡_}
 use mathlib.Core.List.{List}
-use Prim.Native.Nat.{ℕ, _<_, _≤_}
+use Prim.Native.Nat.{ℕ, _≤_}
 use lib.ListN.{length, getD}
 use Rattle.language.specs.Limits.{IsName}
 use Rattle.format.specs.declared.header.Header.{Header}

@@ -1,6 +1,6 @@
 -- The bytes of a table or an image: a header of eight, then the codes, then the operands, four bytes each. Numbers are little-endian.
 use mathlib.Core.List.{List, [], _∷_, _++_}
-use Prim.Native.Nat.{ℕ, _+_, _*_, _/_, _%_, _^_}
+use Prim.Native.Nat.{ℕ, _+_, _*_, _/_, _%_}
 use lib.IntN.{ℤ}
 use lib.ListN.{length, getD, take, drop}
 use mir.Syntax.{w32}

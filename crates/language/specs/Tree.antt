@@ -1,6 +1,6 @@
 -- The abstract syntax of Impcore. Variables and functions are numbers.
 use mathlib.Core.List.{List, []}
-use Prim.Native.Nat.{ℕ, zero, suc, _+_, max}
+use Prim.Native.Nat.{ℕ, suc, _+_, max}
 use lib.IntN.{ℤ}
 
 mutual

@@ -1,19 +1,17 @@
 -- What is true of the table of a definition, and that it has one definition only.
 use mathlib.Core.Path.{_≡_, refl, sym, ap, subst, _∙_}
-use mathlib.Core.List.{List, [], _∷_, _++_, map}
-use Prim.Native.Nat.{ℕ, zero, suc, _+_, _*_, _/_, _%_, _≤_, _<_}
+use mathlib.Core.List.{List, [], _∷_, map}
+use Prim.Native.Nat.{ℕ, _+_, _*_, _≤_}
 use native.Mathlib.Omega.{arith}
-use lib.ListN.{length, length-append, getD, take, drop}
+use lib.ListN.{length, length-append, getD}
 use lib.IntN.{ℤ}
 use Rattle.std.proofs.shelf.Lists.{drop-drop, drop-at, take-at, length-map}
-use Rattle.language.specs.Tree.{Exp, Definition, VAL, DEFINE, body, formals, number, size}
+use Rattle.language.specs.Tree.{Definition, VAL, DEFINE, body, formals, number}
 use Rattle.language.specs.Limits.{Fits}
 use Rattle.format.specs.declared.cell.Cell.{Cell}
 use Rattle.format.specs.declared.cell.Cell.the-variants.{Formal}
-use Rattle.format.specs.declared.header.Kind.the-variants.{Function, Variable}
-use Rattle.format.specs.Layout.{operandBytes, kindByte, u16At, countIn, codesIn, operandsIn}
-use Rattle.format.specs.Headers.{mostFormals, Headed}
-use Rattle.format.specs.Rows.{Whole}
+use Rattle.format.specs.Layout.{operandBytes, kindByte, countIn, codesIn, operandsIn}
+use Rattle.format.specs.Headers.{mostFormals}
 use Rattle.format.specs.Cells.{code, operand, encode, cells, kindOf, tableOf}
 use Rattle.translator.specs.Tables.{Sized, TableHead, formalsIn, AllRight, IsTable}
 use Rattle.translator.specs.Reading.{Spells}

@@ -1,8 +1,8 @@
 -- From bytes that pass every test to their definition.
 use mathlib.Core.Path.{_≡_, refl, sym, ap, subst, _∙_}
-use mathlib.Core.Bool.{Bool, true, false}
+use mathlib.Core.Bool.{true}
 use mathlib.Core.List.{List, [], _∷_, _++_, map}
-use Prim.Native.Nat.{ℕ, zero, suc, _+_, _-_, _*_, _/_, _%_, _≤_, _<_}
+use Prim.Native.Nat.{ℕ, zero, suc, _+_, _*_, _/_, _%_, _≤_, _<_}
 use native.Mathlib.Omega.{arith}
 use borrow.Author.Tests.{lt-ltb}
 use lib.ListN.{length, length-append, length-drop, length-take, getD, take, drop, take-append-drop}
@@ -14,10 +14,10 @@ use Rattle.format.specs.declared.cell.Cell.the-variants.{Literal, Var, Set, If,
 use Rattle.format.specs.declared.header.Header.{Header}
 use Rattle.format.specs.declared.header.Kind.{Kind}
 use Rattle.format.specs.declared.header.Kind.the-variants.{Function, Variable}
-use Rattle.format.specs.Layout.{bytes2, headerBytes, layout, operandBytes, kindByte, u16At, countIn, codesIn, operandsIn}
-use Rattle.format.specs.Headers.{mostFormals, Headed, HeaderAt}
-use Rattle.format.specs.Rows.{Whole, Cut}
-use Rattle.format.specs.Cells.{code, operand, encode, cells, isFormal, kindOf, headerOf, tableOf}
+use Rattle.format.specs.Layout.{headerBytes, layout, operandBytes, kindByte, countIn}
+use Rattle.format.specs.Headers.{mostFormals, HeaderAt}
+use Rattle.format.specs.Rows.{Cut}
+use Rattle.format.specs.Cells.{code, operand, encode, cells, isFormal, kindOf, headerOf}
 use Rattle.format.proofs.Bytes.{take-two}
 use Rattle.translator.specs.declared.expression.Extent.{Extent}
 use Rattle.translator.specs.Tables.{CellAt, Right, AllRight, IsTable}

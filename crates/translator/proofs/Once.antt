@@ -1,22 +1,20 @@
 -- A table has one answer only.
 use mathlib.Core.Path.{_≡_, refl, sym, ap, subst, _∙_}
-use mathlib.Core.Logic.{_⊎_, inl, inr}
 use mathlib.Core.List.{List}
-use Prim.Native.Nat.{ℕ, _≤_, _<_}
+use Prim.Native.Nat.{ℕ, _<_}
 use native.Mathlib.Omega.{arith}
 use native.Mathlib.Decide.{decLt}
-use lib.ListN.{length}
 use Rattle.std.specs.declared.result.Result.{Result}
 use Rattle.std.specs.declared.result.Result.the-variants.{Ok, Err}
 use Rattle.language.specs.Tree.{Definition, formals}
-use Rattle.language.specs.Limits.{Distinct, Shallow}
+use Rattle.language.specs.Limits.{Distinct}
 use Rattle.format.specs.declared.refusal.Refusal.{Refusal}
 use Rattle.format.specs.declared.refusal.Refusal.the-variants.{Cell}
 use Rattle.format.specs.Refusals.{Told, told}
 use Rattle.format.specs.Cells.{headerOf}
 use Rattle.translator.specs.declared.table.Table.{Table}
-use Rattle.translator.specs.Tables.{AllRight, FirstWrong, wrong, missing, IsTable}
-use Rattle.translator.specs.Verdict.{Passed, Refused, SIZE, HEAD, CELL, SHAPE, TWICE, NEST, Accepted, Verdict, answer, Only, Answered}
+use Rattle.translator.specs.Tables.{FirstWrong, wrong, missing, IsTable}
+use Rattle.translator.specs.Verdict.{Refused, SIZE, HEAD, CELL, SHAPE, TWICE, NEST, Verdict, answer, Only, Answered}
 use Rattle.translator.proofs.Facts.{one-definition}
 use Rattle.translator.proofs.Verdicts.{not-both}
 

@@ -4,19 +4,19 @@ use mathlib.Core.Bool.{Bool, true, false}
 use mathlib.Core.List.{List, [], _∷_, _++_, map}
 use Prim.Native.Nat.{ℕ, zero, suc, _+_, _*_, _≤_, _<_}
 use native.Mathlib.Omega.{arith}
-use borrow.Author.Tests.{lt-ltb, le-ltb}
+use borrow.Author.Tests.{ltb-true, ltb-false}
 use lib.Dec.{ltb}
 use lib.ListN.{length, length-append, length-drop, getD, take, drop, take-append-drop}
 use Rattle.std.proofs.shelf.Lists.{drop-more, drop-all, drop-drop, length-map}
 use Rattle.language.specs.Tree.{Exp, LITERAL, VAR, SET, IF, WHILE, BEGIN, APPLY, Exps, nil, cons}
 use Rattle.language.specs.Limits.{InRange, AllInRange, AreNames}
 use Rattle.format.specs.declared.cell.Cell.{Cell}
-use Rattle.format.specs.declared.cell.Cell.the-variants.{Literal, Var, Set, If, While, Begin, Apply, Formal}
-use Rattle.format.specs.Layout.{bytes4, operandBytes}
+use Rattle.format.specs.declared.cell.Cell.the-variants.{If, Formal}
+use Rattle.format.specs.Layout.{operandBytes}
 use Rattle.format.specs.Cells.{code, operand, Valid, encode, encodes, isFormal}
-use Rattle.translator.specs.Tables.{CellAt, Right, AllRight}
+use Rattle.translator.specs.Tables.{CellAt, AllRight}
 use Rattle.translator.specs.Reading.{Spells}
-use Rattle.translator.proofs.Places.{spells-at, spells-front, spells-back}
+use Rattle.translator.proofs.Places.{spells-at}
 
 -- ---- cells in range
 
@@ -159,5 +159,5 @@ module _ (codes operands : List ℕ) where
       placed xs e k h = go (ltb k (length xs)) refl
         where
           go : (t : Bool) → ltb k (length xs) ≡ t → isFormal (getD (map Formal xs ++ encode e) k If) ≡ ltb k (length xs)
-          go true is = formal-first xs (encode e) k If (borrow.Author.Tests.ltb-true k (length xs) is) ∙ sym is
-          go false is = none-after xs (encode e) k If (no-formals e) (borrow.Author.Tests.ltb-false k (length xs) is) h ∙ sym is
+          go true is = formal-first xs (encode e) k If (ltb-true k (length xs) is) ∙ sym is
+          go false is = none-after xs (encode e) k If (no-formals e) (ltb-false k (length xs) is) h ∙ sym is

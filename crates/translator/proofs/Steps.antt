@@ -1,22 +1,21 @@
 -- What each exit of the two functions that read prefix cells shows.
-use mathlib.Core.Path.{_≡_, refl, sym, ap, subst, _∙_}
-use mathlib.Core.Logic.{_⊎_, inl, inr}
-use mathlib.Core.List.{List, [], _∷_, _++_}
-use Prim.Native.Nat.{ℕ, zero, suc, _+_, _-_, _*_, _≤_, _<_, max}
+use mathlib.Core.Path.{_≡_, sym, ap, subst, _∙_}
+use mathlib.Core.Logic.{inl, inr}
+use mathlib.Core.List.{List}
+use Prim.Native.Nat.{ℕ, _+_, _-_, _≤_, _<_, max}
 use native.Mathlib.Omega.{arith}
 use lib.ListN.{length, length-append}
-use Rattle.std.specs.declared.option.Option.{Option}
 use Rattle.std.specs.declared.option.Option.the-variants.{Some, None}
-use Rattle.language.specs.Tree.{Exp, Exps, nil, cons, count, depth, depths, size, sizes}
+use Rattle.language.specs.Tree.{Exp, nil, cons, count, depth}
 use Rattle.format.specs.declared.cell.Cell.{Cell}
 use Rattle.format.specs.declared.layout.Row.{Row}
 use Rattle.format.specs.Rows.{RowAt, NoRow}
-use Rattle.format.specs.Cells.{encode, encodes, parts, IsCell, NoCell}
+use Rattle.format.specs.Cells.{encode, encodes, parts, NoCell}
 use Rattle.translator.specs.declared.expression.Extent.{Extent}
 use Rattle.translator.specs.Tables.{CellAt}
 use Rattle.translator.specs.Reading.{Parallel, Spells, ExpAt, NoExp, ExpsAt, NoExps}
 use Rattle.translator.proofs.Trees.{headOf, partsIn, split, make, unique, encode-size, encodes-size, depth-bound, depths-bound, size-some}
-use Rattle.translator.proofs.Places.{one-cell, cell-here, no-cell-here, spells-append, spells-front, spells-back, spells-within, meet}
+use Rattle.translator.proofs.Places.{one-cell, no-cell-here, spells-append, spells-front, spells-back, spells-within, meet}
 
 module _ (codes operands : List ℕ) where
   -- the first cell of an expression, and its parts after it

@@ -1,11 +1,10 @@
 -- What each answer of the check of a table rests on.
-use mathlib.Core.Path.{_≡_, refl, sym, ap, subst, _∙_}
-use mathlib.Core.Logic.{_⊎_, inl, inr}
-use mathlib.Core.List.{List, [], _∷_, _++_, map}
-use Prim.Native.Nat.{ℕ, zero, suc, _+_, _*_, _≤_, _<_}
+use mathlib.Core.Path.{_≡_, sym, ap, subst, _∙_}
+use mathlib.Core.List.{List, [], _∷_, map}
+use Prim.Native.Nat.{ℕ, zero, suc, _+_, _≤_, _<_}
 use native.Mathlib.Omega.{arith}
-use lib.IntN.{ℤ, pos}
-use lib.ListN.{length, getD, take, drop}
+use lib.IntN.{pos}
+use lib.ListN.{length, getD}
 use Rattle.std.proofs.shelf.Lists.{length-map}
 use Rattle.language.specs.Tree.{Definition, formals, body, depth}
 use Rattle.language.specs.Limits.{Distinct, Shallow, Within}
@@ -14,10 +13,10 @@ use Rattle.format.specs.declared.cell.Cell.the-variants.{Formal}
 use Rattle.format.specs.declared.header.Header.{Header}
 use Rattle.format.specs.declared.refusal.Refusal.the-variants.{Size, Head, Cell as WrongCell, Shape, Twice, Nest}
 use Rattle.format.specs.Refusals.{told}
-use Rattle.format.specs.Layout.{bytes4, u16At, countIn, codesIn, operandsIn}
-use Rattle.format.specs.Headers.{Headed, HeaderAt}
-use Rattle.format.specs.Rows.{codesOf, operandsOf, Whole, Cut}
-use Rattle.format.specs.Cells.{encode, headerOf, tableOf}
+use Rattle.format.specs.Layout.{bytes4, codesIn, operandsIn}
+use Rattle.format.specs.Headers.{HeaderAt}
+use Rattle.format.specs.Rows.{codesOf, operandsOf, Cut}
+use Rattle.format.specs.Cells.{encode, tableOf}
 use Rattle.format.proofs.Bytes.{bytes4-injective}
 use Rattle.translator.specs.declared.expression.Extent.{Extent}
 use Rattle.translator.specs.declared.table.Table.{Table}
@@ -26,7 +25,7 @@ use Rattle.translator.specs.Verdict.{Passed, Refused, SIZE, HEAD, CELL, SHAPE,
 use Rattle.translator.specs.Reading.{Parallel, Spells, ExpAt, NoExp, Repeated, NoneRepeated}
 use Rattle.translator.proofs.Places.{operand-value, spells-front, spells-back}
 use Rattle.translator.proofs.Steps.{one-exp}
-use Rattle.translator.proofs.Facts.{Facts, facts, one-definition}
+use Rattle.translator.proofs.Facts.{facts, one-definition}
 use Rattle.translator.proofs.Made.{Made, sizes}
 
 table-of : {t : List ℕ} {d : Definition} → Within d → t ≡ tableOf d → IsTable t d

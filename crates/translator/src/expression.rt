@@ -1,5 +1,4 @@
 // Expressions in prefix order.
-ghost use mathlib.Core.Path.{_≡_};
 ghost use Rattle.std.specs.Options.{Cases};
 ghost use Rattle.format.specs.Rows.{codesOf, operandsOf};
 ghost use Rattle.translator.specs.Reading.{Parallel, ExpAt, NoExp, ExpsAt, NoExps};

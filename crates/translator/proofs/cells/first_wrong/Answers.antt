@@ -1,7 +1,5 @@
-use mathlib.Core.Path.{_≡_}
 use borrow.Author.Count.{below-more}
 use native.Mathlib.Omega.{arith}
-use Prim.Native.Nat.{_<_}
 use Rattle.translator.specs.Tables.{wrong, missing}
 use Rattle.translator.proofs.cells.first_wrong.Needs as need
 
