@@ -14,17 +14,17 @@ use Rattle.format.specs.Layout.{operandBytes, kindByte, countIn, codesIn, opera
 use Rattle.format.specs.Headers.{mostFormals}
 use Rattle.format.specs.Cells.{code, operand, encode, cells, kindOf, tableOf}
 use Rattle.translator.specs.Tables.{Sized, TableHead, formalsIn, AllRight, IsTable}
-use Rattle.translator.specs.Reading.{Spells}
+use Rattle.translator.specs.Reading.{CellsAt}
 use Rattle.translator.proofs.Trees.{encode-size, size-some}
-use Rattle.translator.proofs.Places.{one-cell, spells-front, spells-back}
+use Rattle.translator.proofs.Places.{one-cell, cells-front, cells-back}
 use Rattle.translator.proofs.Steps.{one-exp}
-use Rattle.translator.proofs.Spelt.{AllValid, valid-append, ranged-valid, names-valid, spelt, right}
+use Rattle.translator.proofs.Arrays.{AllValid, valid-append, ranged-valid, names-valid, cells-of-arrays, right}
 
 pub record Facts (t : List ℕ) (d : Definition) : Type 0 where
   pub sized : Sized t
   pub head : TableHead t
   pub right : AllRight (codesIn t) (operandsIn t) (formalsIn t)
-  pub spells : Spells (codesIn t) (operandsIn t) 0 (cells d)
+  pub stand : CellsAt (codesIn t) (operandsIn t) 0 (cells d)
   pub long : length (codesIn t) ≡ length (formals d) + length (encode (body d))
   pub many : formalsIn t ≡ length (formals d)
   pub kind : getD t 4 0 ≡ kindByte (kindOf d)
@@ -53,13 +53,13 @@ facts-of d f =
     let operands-are : operandsIn t ≡ ops = sym (drop-drop (countIn t) 8 t) ∙ drop-at cods ops (countIn t) (lc ∙ sym n) in
     let total : length t ≡ 8 + 5 * countIn t = omega (arith, length-append cods ops, lc, lo, n) in
     let valid : AllValid cs = valid-append (map Formal (formals d)) (encode (body d)) (names-valid (formals d) (f .named)) (ranged-valid (body d) (f .ranged)) in
-    let x : Spells (codesIn t) (operandsIn t) 0 cs = spelt (codesIn t) (operandsIn t) 0 cs valid codes-are operands-are in
+    let x : CellsAt (codesIn t) (operandsIn t) 0 cs = cells-of-arrays (codesIn t) (operandsIn t) 0 cs valid codes-are operands-are in
     let lengths : length (codesIn t) ≡ length cs = ap length codes-are ∙ lc in
     record {
       sized = record { whole = record { headed = omega (arith, total); long = total }; some = omega (arith, n, l, encode-size (body d), size-some (body d)); few = omega (arith, n, few) };
       head = record { flat = refl; headed = record { kind = kindOf d; kind-is = refl; number = f .numbered; formals = most d f; last = refl } };
       right = right (codesIn t) (operandsIn t) (formals d) (body d) (sym lengths) x;
-      spells = x;
+      stand = x;
       long = lengths ∙ l;
       many = refl;
       kind = refl;
@@ -71,7 +71,7 @@ facts {t} {d} x = subst (λ u. Facts u d) (sym (x .is)) (facts-of d (x .fits))
 
 -- ---- one definition only
 
-same-cells : (codes operands : List ℕ) (at : ℕ) (cs ds : List Cell) → length cs ≡ length ds → Spells codes operands at cs → Spells codes operands at ds → cs ≡ ds
+same-cells : (codes operands : List ℕ) (at : ℕ) (cs ds : List Cell) → length cs ≡ length ds → CellsAt codes operands at cs → CellsAt codes operands at ds → cs ≡ ds
 same-cells codes operands at [] [] l x y = refl
 same-cells codes operands at [] (d ∷ ds) l x y = absurd (omega arith)
 same-cells codes operands at (c ∷ cs) [] l x y = absurd (omega arith)
@@ -103,7 +103,7 @@ one-definition {t} {c} {d} x y =
     let many : length (formals c) ≡ length (formals d) = sym (p .many) ∙ q .many in
     let lx : length xs ≡ length (formals c) = length-map (formals c) Formal in
     let ly : length ys ≡ length (formals d) = length-map (formals d) Formal in
-    let names : xs ≡ ys = same-cells codes operands 0 xs ys (omega (arith, lx, ly, many)) (spells-front codes operands 0 xs (encode (body c)) (p .spells)) (spells-front codes operands 0 ys (encode (body d)) (q .spells)) in
-    let after : Spells codes operands (0 + length xs) (encode (body d)) = subst (λ k. Spells codes operands (0 + k) (encode (body d))) (let z : length ys ≡ length xs = omega (arith, lx, ly, many) in z) (spells-back codes operands 0 ys (encode (body d)) (q .spells)) in
+    let names : xs ≡ ys = same-cells codes operands 0 xs ys (omega (arith, lx, ly, many)) (cells-front codes operands 0 xs (encode (body c)) (p .stand)) (cells-front codes operands 0 ys (encode (body d)) (q .stand)) in
+    let after : CellsAt codes operands (0 + length xs) (encode (body d)) = subst (λ k. CellsAt codes operands (0 + k) (encode (body d))) (let z : length ys ≡ length xs = omega (arith, lx, ly, many) in z) (cells-back codes operands 0 ys (encode (body d)) (q .stand)) in
     joined c d (sym (p .kind) ∙ q .kind) (sym (p .number-is) ∙ q .number-is) (same-names (formals c) (formals d) names)
-    (one-exp codes operands (0 + length xs) (body c) (body d) (spells-back codes operands 0 xs (encode (body c)) (p .spells)) after)
+    (one-exp codes operands (0 + length xs) (body c) (body d) (cells-back codes operands 0 xs (encode (body c)) (p .stand)) after)

@@ -1,8 +1,8 @@
 pub mod Trees
 pub mod Places
 pub mod Steps
-pub mod Spelt
+pub mod Arrays
 pub mod Facts
-pub mod Made
+pub mod Decoded
 pub mod Verdicts
-pub mod Once
+pub mod Only

@@ -16,7 +16,7 @@ use Rattle.format.specs.Rows.{RowAt}
 use Rattle.format.specs.Cells.{code, operand, Valid, IsCell, NoCell}
 use Rattle.format.proofs.Bytes.{bytes4-injective}
 use Rattle.translator.specs.Tables.{CellAt}
-use Rattle.translator.specs.Reading.{Spells}
+use Rattle.translator.specs.Reading.{CellsAt}
 
 natural : ℤ → ℕ
 natural (pos n) = n
@@ -69,7 +69,7 @@ module _ {codes operands : List ℕ} {i : ℕ} where
         operand-is = bytes4-injective _ _ (r .operand .value) (operand-value c (x .valid)) (sym (r .operand .four) ∙ x .operand-is);
       }
 
--- what is spelt from one place on is the longer of the two with the other as its beginning
+-- what is cells-of-arrays from one place on is the longer of the two with the other as its beginning
 pub record Meet (cs ds : List Cell) : Type 0 where
   pub left : List Cell
   pub right : List Cell
@@ -77,28 +77,28 @@ pub record Meet (cs ds : List Cell) : Type 0 where
 
 module _ (codes operands : List ℕ) where
   -- cells one after the other
-  pub spells-append : (at : ℕ) (cs ds : List Cell) → Spells codes operands at cs → Spells codes operands (at + length cs) ds → Spells codes operands at (cs ++ ds)
-  spells-append at [] ds x y = subst (λ k. Spells codes operands k ds) (omega arith) y
-  spells-append at (c ∷ cs) ds x y = (x .0, spells-append (at + 1) cs ds (x .1) (subst (λ k. Spells codes operands k ds) (omega arith) y))
+  pub cells-append : (at : ℕ) (cs ds : List Cell) → CellsAt codes operands at cs → CellsAt codes operands (at + length cs) ds → CellsAt codes operands at (cs ++ ds)
+  cells-append at [] ds x y = subst (λ k. CellsAt codes operands k ds) (omega arith) y
+  cells-append at (c ∷ cs) ds x y = (x .0, cells-append (at + 1) cs ds (x .1) (subst (λ k. CellsAt codes operands k ds) (omega arith) y))
 
-  pub spells-front : (at : ℕ) (cs ds : List Cell) → Spells codes operands at (cs ++ ds) → Spells codes operands at cs
-  spells-front at [] ds x = tt
-  spells-front at (c ∷ cs) ds x = (x .0, spells-front (at + 1) cs ds (x .1))
+  pub cells-front : (at : ℕ) (cs ds : List Cell) → CellsAt codes operands at (cs ++ ds) → CellsAt codes operands at cs
+  cells-front at [] ds x = tt
+  cells-front at (c ∷ cs) ds x = (x .0, cells-front (at + 1) cs ds (x .1))
 
-  pub spells-back : (at : ℕ) (cs ds : List Cell) → Spells codes operands at (cs ++ ds) → Spells codes operands (at + length cs) ds
-  spells-back at [] ds x = subst (λ k. Spells codes operands k ds) (omega arith) x
-  spells-back at (c ∷ cs) ds x = subst (λ k. Spells codes operands k ds) (omega arith) (spells-back (at + 1) cs ds (x .1))
+  pub cells-back : (at : ℕ) (cs ds : List Cell) → CellsAt codes operands at (cs ++ ds) → CellsAt codes operands (at + length cs) ds
+  cells-back at [] ds x = subst (λ k. CellsAt codes operands k ds) (omega arith) x
+  cells-back at (c ∷ cs) ds x = subst (λ k. CellsAt codes operands k ds) (omega arith) (cells-back (at + 1) cs ds (x .1))
 
-  pub spells-within : (at : ℕ) (cs : List Cell) → at ≤ length codes → Spells codes operands at cs → at + length cs ≤ length codes
-  spells-within at [] h x = omega arith
-  spells-within at (c ∷ cs) h x = omega (arith, spells-within (at + 1) cs (omega (arith, x .0 .within)) (x .1))
+  pub cells-within : (at : ℕ) (cs : List Cell) → at ≤ length codes → CellsAt codes operands at cs → at + length cs ≤ length codes
+  cells-within at [] h x = omega arith
+  cells-within at (c ∷ cs) h x = omega (arith, cells-within (at + 1) cs (omega (arith, x .0 .within)) (x .1))
 
-  pub spells-at : (at : ℕ) (cs : List Cell) (k : ℕ) (d : Cell) → Spells codes operands at cs → k < length cs → CellAt codes operands (at + k) (getD cs k d)
-  spells-at at [] k d x h = absurd (omega arith)
-  spells-at at (c ∷ cs) zero d x h = subst (λ j. CellAt codes operands j c) (omega arith) (x .0)
-  spells-at at (c ∷ cs) (suc k) d x h = subst (λ j. CellAt codes operands j (getD cs k d)) (omega arith) (spells-at (at + 1) cs k d (x .1) (omega arith))
+  pub cells-nth : (at : ℕ) (cs : List Cell) (k : ℕ) (d : Cell) → CellsAt codes operands at cs → k < length cs → CellAt codes operands (at + k) (getD cs k d)
+  cells-nth at [] k d x h = absurd (omega arith)
+  cells-nth at (c ∷ cs) zero d x h = subst (λ j. CellAt codes operands j c) (omega arith) (x .0)
+  cells-nth at (c ∷ cs) (suc k) d x h = subst (λ j. CellAt codes operands j (getD cs k d)) (omega arith) (cells-nth (at + 1) cs k d (x .1) (omega arith))
 
-  pub meet : (at : ℕ) (cs ds : List Cell) → Spells codes operands at cs → Spells codes operands at ds → Meet cs ds
+  pub meet : (at : ℕ) (cs ds : List Cell) → CellsAt codes operands at cs → CellsAt codes operands at ds → Meet cs ds
   meet at [] ds x y = record { left = ds; right = []; joined = sym (append-nil ds) }
   meet at (c ∷ cs) [] x y = record { left = []; right = c ∷ cs; joined = append-nil (c ∷ cs) }
   meet at (c ∷ cs) (d ∷ ds) x y =

@@ -22,11 +22,11 @@ use Rattle.translator.specs.declared.expression.Extent.{Extent}
 use Rattle.translator.specs.declared.table.Table.{Table}
 use Rattle.translator.specs.Tables.{Sized, TableHead, formalsIn, CellAt, AllRight, FirstWrong, wrong, missing, IsTable}
 use Rattle.translator.specs.Verdict.{Passed, Refused, SIZE, HEAD, CELL, SHAPE, TWICE, NEST, NoTable, Accepted}
-use Rattle.translator.specs.Reading.{Parallel, Spells, ExpAt, NoExp, Repeated, NoneRepeated}
-use Rattle.translator.proofs.Places.{operand-value, spells-front, spells-back}
+use Rattle.translator.specs.Reading.{Parallel, CellsAt, ExpAt, NoExp, Repeated, NoneRepeated}
+use Rattle.translator.proofs.Places.{operand-value, cells-front, cells-back}
 use Rattle.translator.proofs.Steps.{one-exp}
 use Rattle.translator.proofs.Facts.{facts, one-definition}
-use Rattle.translator.proofs.Made.{Made, sizes}
+use Rattle.translator.proofs.Decoded.{Decoded, sizes}
 
 table-of : {t : List ℕ} {d : Definition} → Within d → t ≡ tableOf d → IsTable t d
 table-of w is = record { fits = w .fits; is = is }
@@ -61,8 +61,8 @@ module _ (t codes operands : List ℕ) (cut : Cut t codes operands) where
     wrong-in : {i : ℕ} → FirstWrong codes operands (h .formals) i → FirstWrong (codesIn t) (operandsIn t) (formalsIn t) i
     wrong-in {i} x = subst (λ n. FirstWrong (codesIn t) (operandsIn t) n i) (at .formals) (subst (λ l. FirstWrong (codesIn t) l (h .formals) i) (cut .operands-are) (subst (λ l. FirstWrong l operands (h .formals) i) (cut .codes-are) x))
 
-    out : (k : ℕ) (cs : List Cell) → Spells (codesIn t) (operandsIn t) k cs → Spells codes operands k cs
-    out k cs x = subst (λ l. Spells codes l k cs) (sym (cut .operands-are)) (subst (λ l. Spells l (operandsIn t) k cs) (sym (cut .codes-are)) x)
+    out : (k : ℕ) (cs : List Cell) → CellsAt (codesIn t) (operandsIn t) k cs → CellsAt codes operands k cs
+    out k cs x = subst (λ l. CellsAt codes l k cs) (sym (cut .operands-are)) (subst (λ l. CellsAt l (operandsIn t) k cs) (sym (cut .codes-are)) x)
 
     pub flat-head : h .height ≡ 0 → TableHead t
     flat-head flat = record { flat = sym (at .height) ∙ flat; headed = at .headed }
@@ -73,10 +73,10 @@ module _ (t codes operands : List ℕ) (cut : Cut t codes operands) where
     many : {d : Definition} → IsTable t d → length (map Formal (formals d)) ≡ h .formals
     many {d} x = length-map (formals d) Formal ∙ sym (facts x .many) ∙ sym (at .formals)
 
-    body-spelt : {d : Definition} → IsTable t d → Spells codes operands (h .formals) (encode (body d))
-    body-spelt {d} x =
+    body-stands : {d : Definition} → IsTable t d → CellsAt codes operands (h .formals) (encode (body d))
+    body-stands {d} x =
         let k : 0 + length (map Formal (formals d)) ≡ h .formals = omega (arith, many x) in
-        out (h .formals) (encode (body d)) (subst (λ k. Spells (codesIn t) (operandsIn t) k (encode (body d))) k (spells-back (codesIn t) (operandsIn t) 0 (map Formal (formals d)) (encode (body d)) (facts x .spells)))
+        out (h .formals) (encode (body d)) (subst (λ k. CellsAt (codesIn t) (operandsIn t) k (encode (body d))) k (cells-back (codesIn t) (operandsIn t) 0 (map Formal (formals d)) (encode (body d)) (facts x .stand)))
 
     passed : Sized t → h .height ≡ 0 → AllRight codes operands (h .formals) → Passed t
     passed s flat all = record { sized = s; head = flat-head flat; right = all-in all }
@@ -85,24 +85,24 @@ module _ (t codes operands : List ℕ) (cut : Cut t codes operands) where
     refuse-shape s flat all never = (SHAPE (passed s flat all) never, λ d w is. never d (table-of w is))
 
     pub no-body : Sized t → h .height ≡ 0 → AllRight codes operands (h .formals) → NoExp codes operands (h .formals) → Refused t (told Shape) × NoTable t
-    no-body s flat all never = refuse-shape s flat all (λ d x. never (body d) (body-spelt x))
+    no-body s flat all never = refuse-shape s flat all (λ d x. never (body d) (body-stands x))
 
     pub left-over : (x : Extent) → Sized t → h .height ≡ 0 → AllRight codes operands (h .formals) → ExpAt codes operands (h .formals) x → x .«end» < length codes → Refused t (told Shape) × NoTable t
     left-over x s flat all exp short =
         refuse-shape s flat all
         (λ d y.
-        let same : body d ≡ exp .e = one-exp codes operands (h .formals) (body d) (exp .e) (body-spelt y) (exp .spells) in
+        let same : body d ≡ exp .e = one-exp codes operands (h .formals) (body d) (exp .e) (body-stands y) (exp .stand) in
         let long : length codes ≡ length (formals d) + length (encode (body d)) = ap length (cut .codes-are) ∙ facts y .long in
         omega (arith, long, ap (λ e. length (encode e)) same, exp .past, facts y .many, at .formals))
 
-    formal-at : (codes operands : List ℕ) (at : ℕ) (xs : List ℕ) (k : ℕ) → k < length xs → Spells codes operands at (map Formal xs) → CellAt codes operands (at + k) (Formal (getD xs k 0))
+    formal-at : (codes operands : List ℕ) (at : ℕ) (xs : List ℕ) (k : ℕ) → k < length xs → CellsAt codes operands at (map Formal xs) → CellAt codes operands (at + k) (Formal (getD xs k 0))
     formal-at codes operands at [] k h x = absurd (omega arith)
     formal-at codes operands at (y ∷ xs) zero h x = subst (λ j. CellAt codes operands j (Formal y)) (omega arith) (x .0)
     formal-at codes operands at (y ∷ xs) (suc k) h x = subst (λ j. CellAt codes operands j (Formal (getD xs k 0))) (omega arith) (formal-at codes operands (at + 1) xs k (omega arith) (x .1))
 
     formal-here : {d : Definition} → IsTable t d → (k : ℕ) → k < length (formals d) → CellAt codes operands k (Formal (getD (formals d) k 0))
     formal-here {d} x k lt =
-        let front = out 0 (map Formal (formals d)) (spells-front (codesIn t) (operandsIn t) 0 (map Formal (formals d)) (encode (body d)) (facts x .spells)) in
+        let front = out 0 (map Formal (formals d)) (cells-front (codesIn t) (operandsIn t) 0 (map Formal (formals d)) (encode (body d)) (facts x .stand)) in
         subst (λ j. CellAt codes operands j (Formal (getD (formals d) k 0))) (omega arith) (formal-at codes operands 0 (formals d) k lt front)
 
     count-is : {d : Definition} → IsTable t d → length (formals d) ≡ h .formals
@@ -123,7 +123,7 @@ module _ (t codes operands : List ℕ) (cut : Cut t codes operands) where
         let b = formal-here x j within in
         none j (omega (arith, count-is x)) i before (a .operand-is ∙ ap (λ v. bytes4 (pos v)) same ∙ sym (b .operand-is))
 
-    module _ (x : Extent) (m : Made t h x) where
+    module _ (x : Extent) (m : Decoded t h x) where
       only : (d : Definition) → IsTable t d → d ≡ m .definition
       only d y = one-definition y (m .table)
 

@@ -15,28 +15,28 @@ pub record Parallel (codes operands : List ℕ) : Type 0 where
   pub long : length operands ≡ 4 * length codes
 
 -- these cells stand at `at` and after it
-abbrev pub Spells : List ℕ → List ℕ → ℕ → List Cell → Type 0
-Spells codes operands at [] = Unit {0}
-Spells codes operands at (c ∷ cs) = CellAt codes operands at c × Spells codes operands (at + 1) cs
+abbrev pub CellsAt : List ℕ → List ℕ → ℕ → List Cell → Type 0
+CellsAt codes operands at [] = Unit {0}
+CellsAt codes operands at (c ∷ cs) = CellAt codes operands at c × CellsAt codes operands (at + 1) cs
 
 pub record ExpAt (codes operands : List ℕ) (at : ℕ) (x : Extent) : Type 0 where
   pub e : Exp
-  pub spells : Spells codes operands at (encode e)
+  pub stand : CellsAt codes operands at (encode e)
   pub past : x .«end» ≡ at + length (encode e)
   pub deep : x .depth ≡ depth e
 
 abbrev pub NoExp : List ℕ → List ℕ → ℕ → Type 0
-NoExp codes operands at = (e : Exp) → Spells codes operands at (encode e) → ⊥
+NoExp codes operands at = (e : Exp) → CellsAt codes operands at (encode e) → ⊥
 
 pub record ExpsAt (codes operands : List ℕ) (at n : ℕ) (x : Extent) : Type 0 where
   pub es : Exps
   pub many : count es ≡ n
-  pub spells : Spells codes operands at (encodes es)
+  pub stand : CellsAt codes operands at (encodes es)
   pub past : x .«end» ≡ at + length (encodes es)
   pub deep : x .depth ≡ depths es
 
 abbrev pub NoExps : List ℕ → List ℕ → ℕ → ℕ → Type 0
-NoExps codes operands at n = (es : Exps) → count es ≡ n → Spells codes operands at (encodes es) → ⊥
+NoExps codes operands at n = (es : Exps) → count es ≡ n → CellsAt codes operands at (encodes es) → ⊥
 
 -- the operands at two places are the same
 abbrev pub Same : List ℕ → ℕ → ℕ → Type 0

@@ -1,9 +1,9 @@
 use mathlib.Core.Path.{refl, _∙_}
 use native.Mathlib.Omega.{arith}
 use Rattle.translator.proofs.Steps.{end-within}
-use Rattle.translator.proofs.Made.{made}
+use Rattle.translator.proofs.Decoded.{decoded}
 use Rattle.translator.proofs.Verdicts.{refuse-size, refuse-head, some-sized, sized-some, parallel, refuse-cell, no-body, left-over, refuse-twice, refuse-nest, accepted}
-use Rattle.translator.proofs.Once.{answered}
+use Rattle.translator.proofs.Only.{answered}
 use Rattle.translator.proofs.table.accept.Needs as need
 
 pub returns-in-rest : need.returns-in-rest
@@ -54,7 +54,7 @@ returns-then-has-repeated c =
     let cut = c .in-Some .ensures tt in
     let at = c .in-Some-read .ensures tt in
     let exp = c .in-Some-read-expression .ensures tt in
-    let m = made _ _ _ _ (c .in-Some-read-expression .body) cut (parallel _ _ _ cut (omega arith)) at (c .if-header-ne0 .left) exp (omega arith) (end-within _ _ _ _ exp) (c .in-rest-first-wrong .ensures tt) in
+    let m = decoded _ _ _ _ (c .in-Some-read-expression .body) cut (parallel _ _ _ cut (omega arith)) at (c .if-header-ne0 .left) exp (omega arith) (end-within _ _ _ _ exp) (c .in-rest-first-wrong .ensures tt) in
     answered _ _ (refuse-twice _ _ _ cut _ at _ m (c .if-has-repeated .ensures tt))
 
 pub returns-then-body-gt-MAX-DEPTH : need.returns-then-body-gt-MAX-DEPTH
@@ -62,7 +62,7 @@ returns-then-body-gt-MAX-DEPTH c =
     let cut = c .in-Some .ensures tt in
     let at = c .in-Some-read .ensures tt in
     let exp = c .in-Some-read-expression .ensures tt in
-    let m = made _ _ _ _ (c .in-Some-read-expression .body) cut (parallel _ _ _ cut (omega arith)) at (c .if-header-ne0 .left) exp (omega arith) (end-within _ _ _ _ exp) (c .in-rest-first-wrong .ensures tt) in
+    let m = decoded _ _ _ _ (c .in-Some-read-expression .body) cut (parallel _ _ _ cut (omega arith)) at (c .if-header-ne0 .left) exp (omega arith) (end-within _ _ _ _ exp) (c .in-rest-first-wrong .ensures tt) in
     answered _ _ (refuse-nest _ _ _ cut _ at _ m (c .if-has-repeated .ensures tt) (c .if-body-gt-MAX-DEPTH .taken))
 
 pub returns : need.returns
@@ -70,5 +70,5 @@ returns c =
     let cut = c .in-Some .ensures tt in
     let at = c .in-Some-read .ensures tt in
     let exp = c .in-Some-read-expression .ensures tt in
-    let m = made _ _ _ _ (c .in-Some-read-expression .body) cut (parallel _ _ _ cut (omega arith)) at (c .if-header-ne0 .left) exp (omega arith) (end-within _ _ _ _ exp) (c .in-rest-first-wrong .ensures tt) in
+    let m = decoded _ _ _ _ (c .in-Some-read-expression .body) cut (parallel _ _ _ cut (omega arith)) at (c .if-header-ne0 .left) exp (omega arith) (end-within _ _ _ _ exp) (c .in-rest-first-wrong .ensures tt) in
     answered _ _ (accepted _ _ _ cut _ at _ m _ refl refl refl (c .if-has-repeated .ensures tt) (c .if-body-gt-MAX-DEPTH .left))

@@ -21,10 +21,10 @@ use Rattle.format.specs.Cells.{code, operand, encode, cells, isFormal, kindOf, 
 use Rattle.format.proofs.Bytes.{take-two}
 use Rattle.translator.specs.declared.expression.Extent.{Extent}
 use Rattle.translator.specs.Tables.{CellAt, Right, AllRight, IsTable}
-use Rattle.translator.specs.Reading.{Parallel, Spells, ExpAt}
+use Rattle.translator.specs.Reading.{Parallel, CellsAt, ExpAt}
 use Rattle.translator.proofs.Trees.{encode-size}
-use Rattle.translator.proofs.Places.{spells-append}
-use Rattle.translator.proofs.Spelt.{valid-front, valid-back, valid-ranged, valid-names, spells-valid, codes-spelt, operands-spelt}
+use Rattle.translator.proofs.Places.{cells-append}
+use Rattle.translator.proofs.Arrays.{valid-front, valid-back, valid-ranged, valid-names, cells-valid, codes-of-cells, operands-of-cells}
 
 -- ---- the formals
 
@@ -41,15 +41,15 @@ formal-cell (Formal x) h = (x, refl)
 record Names (codes operands : List ℕ) (at n : ℕ) : Type 0 where
   names : List ℕ
   many : length names ≡ n
-  spells : Spells codes operands at (map Formal names)
+  stand : CellsAt codes operands at (map Formal names)
 
 names-from : (codes operands : List ℕ) (m n at : ℕ) → at + n ≤ m → ((k : ℕ) → k < at + n → Right codes operands m k) → Names codes operands at n
-names-from codes operands m zero at le h = record { names = []; many = refl; spells = tt }
+names-from codes operands m zero at le h = record { names = []; many = refl; stand = tt }
 names-from codes operands m (suc n) at le h =
     let r = h at (omega arith) in
     let f = formal-cell (r .cell) (r .placed ∙ lt-ltb at m (omega arith)) in
     let rest = names-from codes operands m n (at + 1) (omega arith) (λ k lt. h k (omega arith)) in
-    record { names = f .0 ∷ rest .names; many = ap suc (rest .many); spells = (subst (λ c. CellAt codes operands at c) (f .1) (r .here), rest .spells) }
+    record { names = f .0 ∷ rest .names; many = ap suc (rest .many); stand = (subst (λ c. CellAt codes operands at c) (f .1) (r .here), rest .stand) }
 
 -- ---- the header
 
@@ -81,11 +81,11 @@ sizes t codes operands cut =
     )
 
 -- the whole
-pub layout-is : (t codes operands : List ℕ) (h : Header) (cs : List Cell) → Cut t codes operands → HeaderAt t h → h .height ≡ 0 → length cs ≡ length codes → Spells codes operands 0 cs → t ≡ layout h (map code cs) (map operand cs)
+pub layout-is : (t codes operands : List ℕ) (h : Header) (cs : List Cell) → Cut t codes operands → HeaderAt t h → h .height ≡ 0 → length cs ≡ length codes → CellsAt codes operands 0 cs → t ≡ layout h (map code cs) (map operand cs)
 layout-is t codes operands h cs cut at flat long x =
     let s = sizes t codes operands cut in
-    let c : codes ≡ map code cs = codes-spelt codes operands 0 cs (omega (arith, long)) x in
-    let o : operands ≡ operandBytes (map operand cs) = operands-spelt codes operands 0 cs (omega (arith, s .0, s .1, long)) x in
+    let c : codes ≡ map code cs = codes-of-cells codes operands 0 cs (omega (arith, long)) x in
+    let o : operands ≡ operandBytes (map operand cs) = operands-of-cells codes operands 0 cs (omega (arith, s .0, s .1, long)) x in
     let rest : drop 8 t ≡ codes ++ operands = sym (take-append-drop (countIn t) (drop 8 t)) ∙ (λ i. sym (cut .codes-are) i ++ (drop-drop (countIn t) 8 t ∙ sym (cut .operands-are)) i) in
     sym (take-append-drop 8 t) ∙ (λ i. (header-is t codes operands h cut at flat ∙ ap (λ l. headerBytes (length l) h) c) i ++ (rest ∙ (λ j. c j ++ o j)) i)
 
@@ -120,23 +120,23 @@ fewer : (k : Kind) → mostFormals k ≤ 15
 fewer Function = omega arith
 fewer Variable = omega arith
 
-pub record Made (t : List ℕ) (h : Header) (x : Extent) : Type 0 where
+pub record Decoded (t : List ℕ) (h : Header) (x : Extent) : Type 0 where
   pub definition : Definition
   pub table : IsTable t definition
   pub header : h ≡ headerOf definition
   pub deep : x .depth ≡ depth (body definition)
 
 module _ (t codes operands : List ℕ) (h : Header) (x : Extent) (cut : Cut t codes operands) (par : Parallel codes operands) (at : HeaderAt t h) (flat : h .height ≡ 0) (exp : ExpAt codes operands (h .formals) x) (low : length codes ≤ x .«end») (high : x .«end» ≤ length codes) where
-  join : (ns : Names codes operands 0 (h .formals)) (d : Definition) → Parts (h .kind) (h .number) (ns .names) (exp .e) d → Made t h x
+  join : (ns : Names codes operands 0 (h .formals)) (d : Definition) → Parts (h .kind) (h .number) (ns .names) (exp .e) d → Decoded t h x
   join ns d p =
       let xs = ns .names in
       let e = exp .e in
       let cs = map Formal xs ++ encode e in
       let lx : length (map Formal xs) ≡ h .formals = length-map xs Formal ∙ ns .many in
       let from : h .formals ≡ 0 + length (map Formal xs) = omega (arith, lx) in
-      let spells : Spells codes operands 0 cs = spells-append codes operands 0 (map Formal xs) (encode e) (ns .spells) (subst (λ k. Spells codes operands k (encode e)) from (exp .spells)) in
+      let stand : CellsAt codes operands 0 cs = cells-append codes operands 0 (map Formal xs) (encode e) (ns .stand) (subst (λ k. CellsAt codes operands k (encode e)) from (exp .stand)) in
       let long : length cs ≡ length codes = length-append (map Formal xs) (encode e) ∙ omega (arith, lx, exp .past) in
-      let valid = spells-valid codes operands 0 cs spells in
+      let valid = cells-valid codes operands 0 cs stand in
       let header : h ≡ headerOf d = λ i. record { height = flat i; kind = sym (p .kind) i; number = sym (p .number-is) i; formals = (sym (ns .many) ∙ ap length (sym (p .formals-are))) i } in
       let same : cs ≡ cells d = λ i. map Formal (sym (p .formals-are) i) ++ encode (sym (p .body-is) i) in
       let many : length (formals d) ≡ h .formals = ap length (p .formals-are) ∙ ns .many in
@@ -150,13 +150,13 @@ module _ (t codes operands : List ℕ) (h : Header) (x : Extent) (cut : Cut t co
       } in
       record {
         definition = d;
-        table = record { fits = fits; is = layout-is t codes operands h cs cut at flat long spells ∙ (λ i. layout (header i) (map code (same i)) (map operand (same i))) };
+        table = record { fits = fits; is = layout-is t codes operands h cs cut at flat long stand ∙ (λ i. layout (header i) (map code (same i)) (map operand (same i))) };
         header = header;
         deep = exp .deep ∙ ap depth (sym (p .body-is));
       }
 
-  pub made : AllRight codes operands (h .formals) → Made t h x
-  made all =
+  pub decoded : AllRight codes operands (h .formals) → Decoded t h x
+  decoded all =
       let ns = names-from codes operands (h .formals) (h .formals) 0 (omega arith) (λ k lt. all .each k (omega (arith, all .enough))) in
       let kind : at .headed .kind ≡ h .kind = same-kind _ _ (at .headed .kind-is ∙ sym (at .kind)) in
       let most : length (ns .names) ≤ mostFormals (h .kind) = omega (arith, ns .many, at .formals, at .headed .formals, ap mostFormals kind) in

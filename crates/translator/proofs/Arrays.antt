@@ -1,4 +1,4 @@
--- Arrays that spell cells are the codes and operands of these cells, and the other way round.
+-- Where cells stand in two arrays, the arrays are their codes and operands, and the other way round.
 use mathlib.Core.Path.{_≡_, refl, sym, ap, subst, _∙_}
 use mathlib.Core.Bool.{Bool, true, false}
 use mathlib.Core.List.{List, [], _∷_, _++_, map}
@@ -15,8 +15,8 @@ use Rattle.format.specs.declared.cell.Cell.the-variants.{If, Formal}
 use Rattle.format.specs.Layout.{operandBytes}
 use Rattle.format.specs.Cells.{code, operand, Valid, encode, encodes, isFormal}
 use Rattle.translator.specs.Tables.{CellAt, AllRight}
-use Rattle.translator.specs.Reading.{Spells}
-use Rattle.translator.proofs.Places.{spells-at}
+use Rattle.translator.specs.Reading.{CellsAt}
+use Rattle.translator.proofs.Places.{cells-nth}
 
 -- ---- cells in range
 
@@ -116,32 +116,32 @@ none-after (y ∷ xs) ds (suc k) d x h l = none-after xs ds k d x (omega arith) 
 -- ---- arrays and cells
 
 module _ (codes operands : List ℕ) where
-  pub spells-valid : (at : ℕ) (cs : List Cell) → Spells codes operands at cs → AllValid cs
-  spells-valid at [] x = tt
-  spells-valid at (c ∷ cs) x = (x .0 .valid, spells-valid (at + 1) cs (x .1))
+  pub cells-valid : (at : ℕ) (cs : List Cell) → CellsAt codes operands at cs → AllValid cs
+  cells-valid at [] x = tt
+  cells-valid at (c ∷ cs) x = (x .0 .valid, cells-valid (at + 1) cs (x .1))
 
-  pub codes-spelt : (at : ℕ) (cs : List Cell) → at + length cs ≡ length codes → Spells codes operands at cs → drop at codes ≡ map code cs
-  codes-spelt at [] l x = drop-all at codes (omega arith)
-  codes-spelt at (c ∷ cs) l x = drop-more codes at 0 (x .0 .within) ∙ (λ i. x .0 .code-is i ∷ codes-spelt (at + 1) cs (omega arith) (x .1) i)
+  pub codes-of-cells : (at : ℕ) (cs : List Cell) → at + length cs ≡ length codes → CellsAt codes operands at cs → drop at codes ≡ map code cs
+  codes-of-cells at [] l x = drop-all at codes (omega arith)
+  codes-of-cells at (c ∷ cs) l x = drop-more codes at 0 (x .0 .within) ∙ (λ i. x .0 .code-is i ∷ codes-of-cells (at + 1) cs (omega arith) (x .1) i)
 
-  pub operands-spelt : (at : ℕ) (cs : List Cell) → length operands ≡ 4 * (at + length cs) → Spells codes operands at cs → drop (4 * at) operands ≡ operandBytes (map operand cs)
-  operands-spelt at [] l x = drop-all (4 * at) operands (omega arith)
-  operands-spelt at (c ∷ cs) l x =
-      let next : drop 4 (drop (4 * at) operands) ≡ operandBytes (map operand cs) = drop-drop 4 (4 * at) operands ∙ ap (λ k. drop k operands) (let e : 4 * at + 4 ≡ 4 * (at + 1) = omega arith in e) ∙ operands-spelt (at + 1) cs (omega arith) (x .1) in
+  pub operands-of-cells : (at : ℕ) (cs : List Cell) → length operands ≡ 4 * (at + length cs) → CellsAt codes operands at cs → drop (4 * at) operands ≡ operandBytes (map operand cs)
+  operands-of-cells at [] l x = drop-all (4 * at) operands (omega arith)
+  operands-of-cells at (c ∷ cs) l x =
+      let next : drop 4 (drop (4 * at) operands) ≡ operandBytes (map operand cs) = drop-drop 4 (4 * at) operands ∙ ap (λ k. drop k operands) (let e : 4 * at + 4 ≡ 4 * (at + 1) = omega arith in e) ∙ operands-of-cells (at + 1) cs (omega arith) (x .1) in
       sym (take-append-drop 4 (drop (4 * at) operands)) ∙ (λ i. x .0 .operand-is i ++ next i)
 
-  pub spelt : (at : ℕ) (cs : List Cell) → AllValid cs → drop at codes ≡ map code cs → drop (4 * at) operands ≡ operandBytes (map operand cs) → Spells codes operands at cs
-  spelt at [] v p q = tt
-  spelt at (c ∷ cs) v p q =
+  pub cells-of-arrays : (at : ℕ) (cs : List Cell) → AllValid cs → drop at codes ≡ map code cs → drop (4 * at) operands ≡ operandBytes (map operand cs) → CellsAt codes operands at cs
+  cells-of-arrays at [] v p q = tt
+  cells-of-arrays at (c ∷ cs) v p q =
       let within : at < length codes = omega (arith, ap length p, length-drop at codes) in
       let both : getD codes at 0 ∷ drop (at + 1) codes ≡ code c ∷ map code cs = sym (drop-more codes at 0 within) ∙ p in
       let here : getD codes at 0 ≡ code c = cc both in
       let rest : drop (at + 1) codes ≡ map code cs = cc both in
       let after : drop (4 * (at + 1)) operands ≡ operandBytes (map operand cs) = ap (λ k. drop k operands) (let e : 4 * (at + 1) ≡ 4 * at + 4 = omega arith in e) ∙ sym (drop-drop 4 (4 * at) operands) ∙ ap (drop 4) q in
-      (record { within = within; valid = v .0; code-is = here; operand-is = ap (take 4) q }, spelt (at + 1) cs (v .1) rest after)
+      (record { within = within; valid = v .0; code-is = here; operand-is = ap (take 4) q }, cells-of-arrays (at + 1) cs (v .1) rest after)
 
   -- the cells of formals and of an expression after them are right
-  pub right : (xs : List ℕ) (e : Exp) → length (map Formal xs ++ encode e) ≡ length codes → Spells codes operands 0 (map Formal xs ++ encode e) → AllRight codes operands (length xs)
+  pub right : (xs : List ℕ) (e : Exp) → length (map Formal xs ++ encode e) ≡ length codes → CellsAt codes operands 0 (map Formal xs ++ encode e) → AllRight codes operands (length xs)
   right xs e l x =
       let cs = map Formal xs ++ encode e in
       record {
@@ -149,7 +149,7 @@ module _ (codes operands : List ℕ) where
             let lt : k < length cs = omega (arith, l) in
             record {
               cell = getD cs k If;
-              here = subst (λ j. CellAt codes operands j (getD cs k If)) (let z : 0 + k ≡ k = omega arith in z) (spells-at codes operands 0 cs k If x lt);
+              here = subst (λ j. CellAt codes operands j (getD cs k If)) (let z : 0 + k ≡ k = omega arith in z) (cells-nth codes operands 0 cs k If x lt);
               placed = placed xs e k lt;
             };
         enough = omega (arith, l, length-append (map Formal xs) (encode e), length-map xs Formal);
