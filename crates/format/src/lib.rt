@@ -1,4 +1,6 @@
 // The byte layout that tables and images share, a table's cells, an image's instructions, and the refusals.
+#![tactic(auto)]
+
 pub mod cell;
 pub mod header;
 pub mod image;
