@@ -7,8 +7,8 @@ use Rattle.format.proofs.layout.Layout.cut.Goals as goal
 pub returns : goal.returns
 returns c =
     let bytes = c.args.bytes.now in
-    let n = c.from-le-bytes-count.result in
-    let is : n ≡ count_in bytes = c.from-le-bytes-count.ensures in
+    let n = c.from_le_bytes-count.result in
+    let is : n ≡ count_in bytes = c.from_le_bytes-count.ensures in
     let front : 8 + n - 8 ≡ count_in bytes = omega (arith, is) in
     let size : length (take (8 + n - 8) (drop 8 bytes)) ≡ count_in bytes = length-take (8 + n - 8) (drop 8 bytes) ∙ omega (arith, front, is, length-drop 8 bytes) in
     let rest : length (drop (8 + n) bytes) ≡ length bytes - (8 + n) = length-drop (8 + n) bytes in
