@@ -1,4 +1,6 @@
 // The command lines that the console reads, and the lines that it answers with.
+#![tactic(auto)]
+
 pub mod answer;
 pub mod command;
 mod hex;

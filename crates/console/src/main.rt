@@ -1,4 +1,6 @@
 // Reads commands from standard input, one to a line, and writes the answer to each on a line.
+#![tactic(auto)]
+
 ghost use Rattle.console.specs.Runs.{Answers};
 
 use commands::answer::Answer;

@@ -1,4 +1,5 @@
 // The limits of Impcore's definitions. The language itself is in specs/.
+#![tactic(auto)]
 
 pub type Variable = u8;
 

@@ -1,4 +1,6 @@
 // A listing of stack code, with the height of the operand stack at each instruction.
+#![tactic(auto)]
+
 ghost use Rattle.std.specs.Prelude.{◌≡◌, length, IfOk};
 ghost use Rattle.listing.specs.Lists.{instrs_of, Lists};
 

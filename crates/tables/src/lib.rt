@@ -1,4 +1,6 @@
 // Tables of definitions: whether bytes are one, and what is wrong with them otherwise.
+#![tactic(auto)]
+
 mod cells;
 mod expression;
 mod table;

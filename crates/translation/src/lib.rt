@@ -1,4 +1,6 @@
 // The translation of tables into images.
+#![tactic(auto)]
+
 mod emit;
 mod image;
 

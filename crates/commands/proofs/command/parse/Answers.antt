@@ -8,48 +8,48 @@ use Rattle.commands.proofs.Parsing.{silent_empty, silent_comment, not_silent, op
 use Rattle.commands.proofs.command.parse.Goals as goal
 use Rattle.commands.proofs.command.parse.Goals.{then-is-empty-via-then-is-empty, then-is-empty-via-else-is-empty+then-starts-with}
 
-pub returns-then-is-empty : goal.returns-then-is-empty
-returns-then-is-empty c =
+pub returns-then-is_empty : goal.returns-then-is_empty
+returns-then-is_empty c =
     let silent : Silent c.args.line.now =
-    elim c.then-is-empty.branch [
-      | then-is-empty-via-then-is-empty w ↦ silent_empty _ (true-eqb _ 0 w.if-is-empty.ensures)
-      | then-is-empty-via-else-is-empty+then-starts-with w ↦ silent_comment _ _ w.starts-with.ensures.value w.if-starts-with.true
+    elim c.then-is_empty.branch [
+      | then-is-empty-via-then-is-empty w ↦ silent_empty _ (true-eqb _ 0 w.if-is_empty.ensures)
+      | then-is_empty-via-else-is_empty+then-starts_with w ↦ silent_comment _ _ w.starts_with.ensures.value w.if-starts_with.true
     ] in
     record { reads = silent; silent = λ _. refl; complete = silent_complete _ silent }
 
-pub hex-operand-requires : goal.hex-operand-requires
-hex-operand-requires c = operands_fit _ _ _ c.split-word.ensures
+pub hex_operand-requires : goal.hex_operand-requires
+hex_operand-requires c = operands_fit _ _ _ c.split_word.ensures
 
-pub returns-in-err-bytes : goal.returns-in-err-bytes
-returns-in-err-bytes c =
-    let exit = err_from_is_err_and c.from-residual.result c.from-residual.ensures.1 in
+pub returns-in_err-bytes : goal.returns-in_err-bytes
+returns-in_err-bytes c =
+    let exit = err_from_is_err_and c.from_residual.result c.from_residual.ensures.1 in
     let line = c.args.line.now in
     let name = (slice_eq-Decides Decides-eqb _ _ _ c.eq.ensures).0 c.if-eq.true in
-    let why = cause line _ _ _ name c.split-word.ensures c.in-err-bytes.ensures in
+    let why = cause line _ _ _ name c.split_word.ensures c.in_err-bytes.ensures in
     let is = exit.1 ∙ ap Err exit.2 in
     record {
       reads = subst (Parsed line) (sym is) why;
       complete = subst (Complete line) (sym is) (only_memory _ _ why);
-      silent = λ s. absurd (not_silent line _ (false-eqb _ 0 c.if-is-empty.ensures) c.starts-with.ensures.value c.if-starts-with.false s);
+      silent = λ s. absurd (not_silent line _ (false-eqb _ 0 c.if-is_empty.ensures) c.starts_with.ensures.value c.if-starts_with.false s);
     }
 
 pub returns-then-eq : goal.returns-then-eq
 returns-then-eq c =
     let name = (slice_eq-Decides Decides-eqb _ _ _ c.eq.ensures).0 c.if-eq.true in
-    let read = c.in-ok-bytes.ensures in
-    let written = written_table c.args.line.now _ _ c.in-ok-bytes.bytes name c.split-word.ensures read in
+    let read = c.in_ok-bytes.ensures in
+    let written = written_table c.args.line.now _ _ c.in_ok-bytes.bytes name c.split_word.ensures read in
     record {
       reads = written;
-      complete = same_table _ c.in-ok-bytes.bytes written read.3;
-      silent = λ s. absurd (not_silent c.args.line.now _ (false-eqb _ 0 c.if-is-empty.ensures) c.starts-with.ensures.value c.if-starts-with.false s);
+      complete = same_table _ c.in_ok-bytes.bytes written read.3;
+      silent = λ s. absurd (not_silent c.args.line.now _ (false-eqb _ 0 c.if-is_empty.ensures) c.starts_with.ensures.value c.if-starts_with.false s);
     }
 
 pub returns : goal.returns
 returns c =
     let other = not_from_Decides _ (slice_eq-Decides Decides-eqb _ _ _ c.eq.ensures) c.if-eq.false in
-    let why = unknown c.args.line.now _ _ c.split-word.ensures other in
+    let why = unknown c.args.line.now _ _ c.split_word.ensures other in
     record {
       reads = why;
       complete = only_memory _ UnknownCommand why;
-      silent = λ s. absurd (not_silent c.args.line.now _ (false-eqb _ 0 c.if-is-empty.ensures) c.starts-with.ensures.value c.if-starts-with.false s);
+      silent = λ s. absurd (not_silent c.args.line.now _ (false-eqb _ 0 c.if-is_empty.ensures) c.starts_with.ensures.value c.if-starts_with.false s);
     }

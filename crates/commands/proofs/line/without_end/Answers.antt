@@ -10,12 +10,12 @@ pub returns-in-Some : goal.returns-in-Some
 returns-in-Some c =
     let line = c.args.line.now in
     let text = c.in-Some.text in
-    let first = MatchOption-at_some _ _ text c.in-Some.is (strip_suffix_is Decides-eqb line (10 ∷ []) _ c.strip-suffix.ensures.cases) in
-    let second = strip_suffix_is Decides-eqb text.now (13 ∷ []) _ c.strip-suffix-in-Some.ensures.cases in
-    subst (λ (r : Bor (List ℕ)). HasText line r.now) (sym c.unwrap-or.ensures) (ended line text _ first second)
+    let first = MatchOption-at_some _ _ text c.in-Some.is (strip_suffix_is Decides-eqb line (10 ∷ []) _ c.strip_suffix.ensures.cases) in
+    let second = strip_suffix_is Decides-eqb text.now (13 ∷ []) _ c.strip_suffix-in-Some.ensures.cases in
+    subst (λ (r : Bor (List ℕ)). HasText line r.now) (sym c.unwrap_or.ensures) (ended line text _ first second)
 
 pub returns-in-None : goal.returns-in-None
 returns-in-None c =
     let line = c.args.line.now in
-    let found = strip_suffix_is Decides-eqb line (10 ∷ []) _ c.strip-suffix.ensures.cases in
+    let found = strip_suffix_is Decides-eqb line (10 ∷ []) _ c.strip_suffix.ensures.cases in
     inr (inr (refl, λ p. MatchOption-at_none _ _ c.in-None.is found p.0 p.1))

@@ -3,4 +3,4 @@ use Rattle.listing.proofs.Heights.{after_added}
 use Rattle.listing.proofs.height.after.Goals as goal
 
 pub returns : goal.returns
-returns c = after_added c.args.instr c.args.height _ _ _ c.checked-add.result c.needs.ensures c.leaves.ensures (omega arith) c.checked-add.ensures
+returns c = after_added c.args.instr c.args.height _ _ _ c.checked_add.result c.needs.ensures c.leaves.ensures (omega arith) c.checked_add.ensures

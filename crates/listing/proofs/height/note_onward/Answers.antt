@@ -8,6 +8,6 @@ returns-in-Jump c = rw c.in-Jump.is c.note.ensures
 pub returns-in-Jz : goal.returns-in-Jz
 returns-in-Jz c = rw c.in-Jz.is (adds_both _ _ _ _ _ _ (omega arith) c.note-in-Jz.ensures c.note-in-Jz-2.ensures)
 
-pub returns-in-default : goal.returns-in-default
-returns-in-default c =
-    adds_next _ _ _ _ _ c.in-default.not-Jump c.in-default.not-Jz c.in-default.not-Ret c.in-default.not-Bind c.note-in-default.ensures
+pub returns-in_default : goal.returns-in_default
+returns-in_default c =
+    adds_next _ _ _ _ _ c.in_default.not-Jump c.in_default.not-Jz c.in_default.not-Ret c.in_default.not-Bind c.note-in_default.ensures

@@ -7,4 +7,4 @@ use Rattle.translation.proofs.emit.put.Goals as goal
 pub returns : goal.returns
 returns c =
     let fits : SFits w32 c.operand.result = search rules in
-    put_one _ _ _ c.args.instr _ _ c.code.ensures (c.copy-from-slice.ensures.after ∙ simp to_z-of_z at c.to-le-bytes.ensures ∙ ap bytes4 c.operand.ensures) c.requires.within c.requires.long
+    put_one _ _ _ c.args.instr _ _ c.code.ensures (c.copy_from_slice.ensures.after ∙ simp to_z-of_z at c.to_le_bytes.ensures ∙ ap bytes4 c.operand.ensures) c.requires.within c.requires.long

@@ -1,23 +1,23 @@
 use Rattle.std.proofs.Common.{◌+◌, ◌-◌, ◌*◌, length}
 use Rattle.translation.proofs.emit.Source.+emitting.Given as goal
 
-abbrev pub decreases-translate-apply : goal.decreases-translate-apply
-decreases-translate-apply l = 3 * (length l.self.now.cells.codes.now - l.at)
+abbrev pub decreases-translate_apply : goal.decreases-translate_apply
+decreases-translate_apply l = 3 * (length l.self.now.cells.codes.now - l.at)
 
-abbrev pub decreases-translate-begin : goal.decreases-translate-begin
-decreases-translate-begin l = 3 * (length l.self.now.cells.codes.now - l.at)
+abbrev pub decreases-translate_begin : goal.decreases-translate_begin
+decreases-translate_begin l = 3 * (length l.self.now.cells.codes.now - l.at)
 
-abbrev pub decreases-translate-expression : goal.decreases-translate-expression
-decreases-translate-expression l = 3 * (length l.self.now.cells.codes.now - l.at) + 1
+abbrev pub decreases-translate_expression : goal.decreases-translate_expression
+decreases-translate_expression l = 3 * (length l.self.now.cells.codes.now - l.at) + 1
 
-abbrev pub decreases-translate-if : goal.decreases-translate-if
-decreases-translate-if l = 3 * (length l.self.now.cells.codes.now - l.at)
+abbrev pub decreases-translate_if : goal.decreases-translate_if
+decreases-translate_if l = 3 * (length l.self.now.cells.codes.now - l.at)
 
-abbrev pub decreases-translate-list : goal.decreases-translate-list
-decreases-translate-list l = 3 * (length l.self.now.cells.codes.now - l.at) + 2
+abbrev pub decreases-translate_list : goal.decreases-translate_list
+decreases-translate_list l = 3 * (length l.self.now.cells.codes.now - l.at) + 2
 
-abbrev pub decreases-translate-set : goal.decreases-translate-set
-decreases-translate-set l = 3 * (length l.self.now.cells.codes.now - l.at)
+abbrev pub decreases-translate_set : goal.decreases-translate_set
+decreases-translate_set l = 3 * (length l.self.now.cells.codes.now - l.at)
 
-abbrev pub decreases-translate-while : goal.decreases-translate-while
-decreases-translate-while l = 3 * (length l.self.now.cells.codes.now - l.at)
+abbrev pub decreases-translate_while : goal.decreases-translate_while
+decreases-translate_while l = 3 * (length l.self.now.cells.codes.now - l.at)
