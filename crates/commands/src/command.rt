@@ -56,7 +56,7 @@ pub fn parse(heap: Global, line: &[u8]) -> Result<Option<Command>, Mistake>
         return Ok(None);
     }
     let (name, operands) = split_word(line);
-    if name == b"table" {
+    if name == b"table".as_slice() {
         let bytes = hex_operand(heap, line, operands)?;
         return Ok(Some(Command::Table(bytes)));
     }

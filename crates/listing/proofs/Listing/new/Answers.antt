@@ -4,7 +4,7 @@ use Rattle.listing.proofs.Listing.new.Goals as goal
 
 pub loop-p-init : goal.loop-p-init
 loop-p-init c =
-    let none : vec_items c.in_ok-heights.heights ≡ replicate c.len.result None = c.in_ok-heights.ensures.items-if-clones-equal (elim [ None ↦ λ copied. refl | Some h ↦ λ copied. absurd copied ]) in
+    let none : vec_items c.in_ok-heights.heights ≡ replicate c.len.result None = c.in_ok-heights.ensures.items_if_clones_equal (elim [ None ↦ λ copied. refl | Some h ↦ λ copied. absurd copied ]) in
     let many = c.in_ok-heights.ensures.len in
     let unknown = none_told c.len.result c.deref_mut.result.now (c.deref_mut.ensures.value ∙ none) in
     in_vec _ _ _ _ _ (omega arith) (pass_none _ _ _ (omega arith) (omega arith) unknown c.note.ensures)

@@ -56,13 +56,13 @@ returns-then-has_repeated c =
     let m = decoded _ _ _ _ c.in-Some-read_expression.body cut (parallel _ _ _ cut (omega arith)) at c.if-header-ne0.false exp (omega arith) (end_within _ _ _ _ exp) c.in_default-first_wrong.ensures in
     answered _ _ (refuse_twice _ _ _ cut _ at _ m c.if-has_repeated.ensures)
 
-pub returns-then-body-gt-MAX-DEPTH : goal.returns-then-body-gt-MAX-DEPTH
-returns-then-body-gt-MAX-DEPTH c =
+pub returns-then-body-gt-MAX_DEPTH : goal.returns-then-body-gt-MAX_DEPTH
+returns-then-body-gt-MAX_DEPTH c =
     let cut = c.in-Some.ensures in
     let at = c.in-Some-read.ensures in
     let exp = c.in-Some-read_expression.ensures in
     let m = decoded _ _ _ _ c.in-Some-read_expression.body cut (parallel _ _ _ cut (omega arith)) at c.if-header-ne0.false exp (omega arith) (end_within _ _ _ _ exp) c.in_default-first_wrong.ensures in
-    answered _ _ (refuse_nest _ _ _ cut _ at _ m c.if-has_repeated.ensures c.if-body-gt-MAX-DEPTH.true)
+    answered _ _ (refuse_nest _ _ _ cut _ at _ m c.if-has_repeated.ensures c.if-body-gt-MAX_DEPTH.true)
 
 pub overflow_add-result : goal.overflow_add-result
 overflow_add-result c =
@@ -76,4 +76,4 @@ returns c =
     let at = c.in-Some-read.ensures in
     let exp = c.in-Some-read_expression.ensures in
     let m = decoded _ _ _ _ c.in-Some-read_expression.body cut (parallel _ _ _ cut (omega arith)) at c.if-header-ne0.false exp (omega arith) (end_within _ _ _ _ exp) c.in_default-first_wrong.ensures in
-    answered _ _ (accepted _ _ _ cut _ at _ m _ refl refl refl refl refl c.if-has_repeated.ensures c.if-body-gt-MAX-DEPTH.false)
+    answered _ _ (accepted _ _ _ cut _ at _ m _ refl refl refl refl refl c.if-has_repeated.ensures c.if-body-gt-MAX_DEPTH.false)
