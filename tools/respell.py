@@ -3,7 +3,7 @@
 
 usage: python3 tools/respell.py     once, at the top, right after /opt/rattle/port/port.py
 
-Types, modules and constructors keep their names, and so do functions of src/, strings, inputs and outputs.
+Types, modules and constructors keep their names, and so do functions of src/, strings, comments, inputs and outputs.
 A dash stays where it joins the names of two functions, as in length-cells.
 """
 
@@ -13,7 +13,6 @@ import subprocess
 
 # old name, new name
 NAMES = """
-a-f a_f
 a-long a_long
 a-stand a_stand
 adds-both adds_both
@@ -321,7 +320,7 @@ ANSWERS = ("Answers.antt", "Invariants.antt")
 
 
 def respell(text, table, answers):
-    """Each whole word of the table, but for the names of goals in a file of answers."""
+    """Each whole word of the table outside strings and comments, but for the names of goals in a file of answers."""
 
     def turn(line):
         out, last = [], 0
@@ -329,7 +328,8 @@ def respell(text, table, answers):
             word = m.group(0)
             before = line[: m.start()]
             goal = answers and (before.endswith("goal.") or re.fullmatch(r"(abbrev )?(pub )?", before))
-            if word in table and not goal:
+            quoted = before.count('"') % 2 == 1 or "-- " in before
+            if word in table and not goal and not quoted:
                 out += [line[last : m.start()], table[word]]
                 last = m.end()
         return "".join(out) + line[last:]

@@ -1,6 +1,6 @@
 -- From what the parts of `parse` say to what it says of the line.
-use Rattle.std.proofs.Common.{◌≡◌, ℕ, zero, suc, ◌/◌, ◌%◌, ◌<◌, ◌≤◌, Bool, true, false, List, [], ◌∷◌, ◌++◌, length, get_or, take, drop, IfSome, Some, None, Ok, Err, vec_items, codes, Decides, Option, Vec, sym, refl, ap, ◌∙◌, subst, inl, inr, arith, Bor}
-use Rattle.std.specs.Cmp.Lexicographic.{Matches}
+use Rattle.std.proofs.Common.{◌≡◌, ℕ, zero, suc, ◌/◌, ◌%◌, ◌<◌, ◌≤◌, Bool, true, false, List, [], ◌∷◌, ◌++◌, length, get_or, take, drop, IfSome, Some, None, Ok, Err, vec_items, codes, Decides, nat_eq, Option, Vec, sym, refl, ap, ◌∙◌, subst, inl, inr, arith, Bor}
+use Rattle.std.specs.List.{starts_with}
 use Rattle.std.specs.declared.alloc.Global.{Global}
 use Rattle.std.proofs.lemmas.Slice.Eq.{starts_is}
 use Rattle.std.proofs.lemmas.Bool.{both_ways}
@@ -21,7 +21,7 @@ silent_empty line e = inl (nil_from_length line e)
 
 -- what `starts_with` says of a line and the comment's character
 abbrev pub Tested : List ℕ → Bool → Type 0
-Tested line r = Matches (λ (a b : ℕ) (t : Bool). Decides t (a ≡ b)) (35 ∷ []) (take 1 line) r
+Tested line r = r ≡ starts_with nat_eq line (35 ∷ [])
 
 pub silent_comment : (line : List ℕ) (r : Bool) → Tested line r → r ≡ true → Silent line
 silent_comment line r m e = inr (drop 1 line, (starts_is Decides-eqb line (35 ∷ []) r m).0 e)

@@ -18,7 +18,7 @@ abbrev pub mistake_text : Mistake → List ℕ
 mistake_text UnknownCommand = codes "unknown command; the commands are: table HEX"
 mistake_text MissingWord = codes "missing word: the command, one blank, then hexadecimal digits"
 mistake_text (SurplusWord column) = codes "one word too many after the blank at column " ++ decimal column
-mistake_text (NotDigit column) = codes "no hexadecimal digit (0-9, a_f) at column " ++ decimal column
+mistake_text (NotDigit column) = codes "no hexadecimal digit (0-9, a-f) at column " ++ decimal column
 mistake_text OddDigits = codes "odd number of hexadecimal digits: each byte has two"
 mistake_text OutOfMemory = codes "out of memory"
 

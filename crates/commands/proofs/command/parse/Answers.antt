@@ -6,13 +6,13 @@ use Rattle.commands.specs.Commands.{Parsed, Silent, Complete}
 use Rattle.commands.specs.declared.command.Mistake.TheVariants.{UnknownCommand}
 use Rattle.commands.proofs.Parsing.{silent_empty, silent_comment, not_silent, operands_fit, cause, only_memory, silent_complete, same_table, written_table, unknown}
 use Rattle.commands.proofs.command.parse.Goals as goal
-use Rattle.commands.proofs.command.parse.Goals.{then-is-empty-via-then-is-empty, then-is-empty-via-else-is-empty+then-starts-with}
+use Rattle.commands.proofs.command.parse.Goals.{then-is_empty-via-then-is_empty, then-is_empty-via-else-is_empty+then-starts_with}
 
 pub returns-then-is_empty : goal.returns-then-is_empty
 returns-then-is_empty c =
     let silent : Silent c.args.line.now =
     elim c.then-is_empty.branch [
-      | then-is-empty-via-then-is-empty w ↦ silent_empty _ (true-eqb _ 0 w.if-is_empty.ensures)
+      | then-is_empty-via-then-is_empty w ↦ silent_empty _ (true-eqb _ 0 w.if-is_empty.ensures)
       | then-is_empty-via-else-is_empty+then-starts_with w ↦ silent_comment _ _ w.starts_with.ensures.value w.if-starts_with.true
     ] in
     record { reads = silent; silent = λ _. refl; complete = silent_complete _ silent }
@@ -24,7 +24,7 @@ pub returns-in_err-bytes : goal.returns-in_err-bytes
 returns-in_err-bytes c =
     let exit = err_from_is_err_and c.from_residual.result c.from_residual.ensures.1 in
     let line = c.args.line.now in
-    let name = (slice_eq-Decides Decides-eqb _ _ _ c.eq.ensures).0 c.if-eq.true in
+    let name = (slice_eq-Decides Decides-eqb _ _ _ c.eq.ensures).0 c.if-eq.true ∙ c.as_slice.ensures in
     let why = cause line _ _ _ name c.split_word.ensures c.in_err-bytes.ensures in
     let is = exit.1 ∙ ap Err exit.2 in
     record {
@@ -35,7 +35,7 @@ returns-in_err-bytes c =
 
 pub returns-then-eq : goal.returns-then-eq
 returns-then-eq c =
-    let name = (slice_eq-Decides Decides-eqb _ _ _ c.eq.ensures).0 c.if-eq.true in
+    let name = (slice_eq-Decides Decides-eqb _ _ _ c.eq.ensures).0 c.if-eq.true ∙ c.as_slice.ensures in
     let read = c.in_ok-bytes.ensures in
     let written = written_table c.args.line.now _ _ c.in_ok-bytes.bytes name c.split_word.ensures read in
     record {
@@ -47,7 +47,7 @@ returns-then-eq c =
 pub returns : goal.returns
 returns c =
     let other = not_from_Decides _ (slice_eq-Decides Decides-eqb _ _ _ c.eq.ensures) c.if-eq.false in
-    let why = unknown c.args.line.now _ _ c.split_word.ensures other in
+    let why = unknown c.args.line.now _ _ c.split_word.ensures (λ e. other (e ∙ sym c.as_slice.ensures)) in
     record {
       reads = why;
       complete = only_memory _ UnknownCommand why;
