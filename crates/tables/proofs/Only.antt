@@ -9,7 +9,7 @@ use Rattle.format.specs.Refusals.{Told, told}
 use Rattle.format.specs.Cells.{header_of}
 use Rattle.tables.specs.declared.table.Table.{Table}
 use Rattle.tables.specs.Tables.{FirstWrong, wrong, missing, IsTable}
-use Rattle.tables.specs.Verdict.{Refused, SIZE, HEAD, CELL, SHAPE, TWICE, NEST, Verdict, answer, Only, Answered}
+use Rattle.tables.specs.Verdict.{Refused, SIZE, HEAD, CELL, SHAPE, TWICE, NEST, Verdict, Only, Answered}
 use Rattle.tables.proofs.Facts.{one_definition}
 use Rattle.tables.proofs.Verdicts.{not_both}
 

@@ -66,7 +66,7 @@ module _ {codes operands : List ℕ} {i : ℕ} where
         operand_is = bytes4_injective _ _ r.operand.value (operand_value c x.valid) (sym r.operand.four ∙ x.operand_is);
       }
 
--- what is cells_of_arrays from one place on is the longer of the two with the other as its beginning
+-- what is cells-of-arrays from one place on is the longer of the two with the other as its beginning
 pub record Meet (cs ds : List Cell) : Type 0 where
   pub left : List Cell
   pub right : List Cell

@@ -8,7 +8,7 @@ use Rattle.format.specs.declared.header.Header.{Header}
 use Rattle.format.specs.declared.instr.Instr.{Instr}
 use Rattle.format.specs.Layout.{header_bytes, operand_bytes}
 use Rattle.format.specs.Rows.{codes_of, operands_of}
-use Rattle.format.specs.Cells.{encode, cells, header_of}
+use Rattle.format.specs.Cells.{encode, header_of}
 use Rattle.format.specs.Instrs.{code as code_of, operand}
 use Rattle.tables.specs.declared.table.Table.{Table}
 use Rattle.translation.specs.declared.emit.Source.{Source}
@@ -16,7 +16,7 @@ use Rattle.translation.specs.declared.emit.Place.{Place}
 use Rattle.tables.specs.Tables.{CellAt}
 use Rattle.tables.specs.Reading.{CellsAt}
 use Rattle.translation.specs.Translation.{code, instrs, image_header, image}
-use Rattle.translation.specs.Emission.{written, names, over, Fit, Ready, Emits}
+use Rattle.translation.specs.Emission.{written, over, Fit, Ready, Emits}
 use Rattle.translation.specs.Imaging.{FormalsTo, Named, Holds, HoldsSome, CodeWritten, Imaged, last_of}
 use Rattle.tables.proofs.Places.{one_cell, cells_front, cells_back, formals_nth}
 use Rattle.translation.proofs.Coding.{length-code, length-instrs}

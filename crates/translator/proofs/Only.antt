@@ -9,7 +9,7 @@ use Rattle.format.specs.Refusals.{Told, told}
 use Rattle.format.specs.Cells.{header_of}
 use Rattle.translator.specs.declared.table.Table.{Table}
 use Rattle.translator.specs.Tables.{FirstWrong, wrong, missing, IsTable}
-use Rattle.translator.specs.Verdict.{Refused, SIZE, HEAD, CELL, SHAPE, TWICE, NEST, Verdict, answer, Only, Answered}
+use Rattle.translator.specs.Verdict.{Refused, SIZE, HEAD, CELL, SHAPE, TWICE, NEST, Verdict, Only, Answered}
 use Rattle.translator.proofs.Facts.{one_definition}
 use Rattle.translator.proofs.Verdicts.{not_both}
 

@@ -1,6 +1,6 @@
 -- What each exit of the two functions that read prefix cells shows.
 use Rattle.std.proofs.Common.{◌≡◌, ℕ, ◌+◌, ◌-◌, ◌<◌, ◌≤◌, max, List, length, Some, None, sym, ap, ◌∙◌, subst, inl, inr, arith, length-append}
-use Rattle.language.specs.Tree.{Exp, nil, cons, count, depth}
+use Rattle.language.specs.Tree.{Exp, nil, cons, count}
 use Rattle.format.specs.declared.cell.Cell.{Cell}
 use Rattle.format.specs.declared.layout.Row.{Row}
 use Rattle.format.specs.Rows.{RowAt, NoRow}

@@ -1,7 +1,7 @@
 -- What each answer of the check of a table rests on.
 use Rattle.std.proofs.Common.{◌≡◌, ℕ, zero, suc, ◌+◌, ◌<◌, ◌≤◌, List, [], ◌∷◌, map, length, get_or, pos, sym, ap, ◌∙◌, subst, arith}
 use Rattle.std.proofs.lemmas.List.{length-map}
-use Rattle.language.specs.Tree.{Definition, formals, body, depth}
+use Rattle.language.specs.Tree.{Definition, formals, body}
 use Rattle.language.specs.Limits.{Distinct, Shallow, Within}
 use Rattle.format.specs.declared.cell.Cell.{Cell}
 use Rattle.format.specs.declared.cell.Cell.TheVariants.{Formal}
