@@ -23,6 +23,7 @@ after-added after_added
 after-moves after_moves
 all-decoded all_decoded
 all-wider all_wider
+all-written all_written
 answerText answer_text
 apply-call-room apply_call_room
 apply-done apply_done
@@ -48,6 +49,7 @@ bytes2-of bytes2_of
 bytes4-injective bytes4_injective
 bytes4-of bytes4_of
 c-long c_long
+cause-memory cause_memory
 cell-back cell_back
 cell-here cell_here
 cellFrom cell_from
@@ -87,6 +89,7 @@ digit-same digit_same
 distinct-too distinct_too
 drops-joins drops_joins
 empty-done empty_done
+encode-digit encode_digit
 encode-size encode_size
 encodes-size encodes_size
 end-within end_within
@@ -94,6 +97,8 @@ exp-bounds exp_bounds
 exps-bounds exps_bounds
 exps-within exps_within
 facts-of facts_of
+faulty-memory faulty_memory
+first-faulty first_faulty
 first-is-table first_is_table
 first-told first_told
 fits-value fits_value
@@ -108,11 +113,15 @@ formals-nth formals_nth
 formals-to formals_to
 formalsIn formals_in
 forward-reaches forward_reaches
+has-after has_after
 head-is head_is
 headerBytes header_bytes
 headerOf header_of
 height-some height_some
 heightsOf heights_of
+hex-memory hex_memory
+hex-only hex_only
+hexMistake hex_mistake
 hexOf hex_of
 hexOf-digits hex_of-digits
 hexOf-push hex_of-push
@@ -161,6 +170,7 @@ list-rest-ready list_rest_ready
 list-room list_room
 literal-done literal_done
 low-is low_is
+missing-word missing_word
 mistakeText mistake_text
 mostFormals most_formals
 move-arguments move_arguments
@@ -173,6 +183,9 @@ names-valid names_valid
 next-is next_is
 no-bind no_bind
 no-blank no_blank
+no-blank-more no_blank_more
+no-blank-none no_blank_none
+no-blanks no_blanks
 no-cause no_cause
 no-cell-here no_cell_here
 no-count no_count
@@ -190,13 +203,17 @@ not-both not_both
 not-distinct not_distinct
 not-later not_later
 not-silent not_silent
+number-memory number_memory
+numberMistake number_mistake
 one-cause one_cause
+one-command one_command
 one-definition one_definition
 one-exp one_exp
 one-header one_header
 one-kind one_kind
 one-refusal one_refusal
 one-wrong one_wrong
+oneOrTwo one_or_two
 only-memory only_memory
 onward-here onward_here
 operand-is operand_is
@@ -236,10 +253,15 @@ refuse-shape refuse_shape
 refuse-size refuse_size
 refuse-twice refuse_twice
 rest-stand rest_stand
+roomOf room_of
 same-cells same_cells
 same-definition same_definition
+same-no same_no
+same-spaced same_spaced
 same-table same_table
+same-words same_words
 second-end second_end
+second-faulty second_faulty
 second-moves second_moves
 second-on second_on
 second-ready second_ready
@@ -249,6 +271,7 @@ set-ready set_ready
 silent-comment silent_comment
 silent-complete silent_complete
 silent-empty silent_empty
+silent-spells silent_spells
 size-some size_some
 sized-some sized_some
 sizes-of sizes_of
@@ -259,6 +282,8 @@ source-ready source_ready
 stacked-raised stacked_raised
 steps-nowhere steps_nowhere
 steps-onward steps_onward
+surplus-one surplus_one
+surplus-two surplus_two
 table-no-blank table_no_blank
 table-of is_table
 take-four take_four
@@ -275,15 +300,19 @@ together-some together_some
 told-later told_later
 told-to told_to
 toldText told_text
+two-words two_words
 u16At u16_at
+unknown-name unknown_name
 valid-append valid_append
 valid-back valid_back
 valid-front valid_front
 valid-names valid_names
 valid-ranged valid_ranged
 valids-ranged valids_ranged
+value-append value_append
 value-back value_back
 value-fits value_fits
+valueAfter value_after
 var-done var_done
 weight-bound weight_bound
 weight-some weight_some
@@ -292,6 +321,11 @@ while-body-ready while_body_ready
 while-done while_done
 while-ends while_ends
 while-test-ready while_test_ready
+words-after words_after
+words-before words_before
+words-fit words_fit
+words-memory words_memory
+words-one words_one
 written-append written_append
 written-comm written_comm
 written-length written_length
@@ -301,6 +335,8 @@ written-three written_three
 written-two written_two
 written-whole written_whole
 wrong-in wrong_in
+wrong-memory wrong_memory
+wrote-both wrote_both
 y-is y_is
 """
 

@@ -1,7 +1,6 @@
 -- The bytes of a table or an image: a header of eight, then the codes, then the operands, four bytes each. Numbers are little-endian.
 use Rattle.std.specs.Prelude.{ℕ, ◌+◌, ◌*◌, ◌/◌, ◌%◌, List, [], ◌∷◌, ◌++◌, length, take, drop, ℤ, slice_index}
-use Rattle.std.specs.Int.{w32}
-use Rattle.std.proofs.Common.{of_z}
+use Rattle.std.specs.Int.{w32, cast_unsigned}
 use Rattle.format.specs.declared.header.Header.{Header}
 use Rattle.format.specs.declared.header.Kind.{Kind}
 use Rattle.format.specs.declared.header.Kind.TheVariants.{Function, Variable}
@@ -12,7 +11,7 @@ bytes2 n = n % 256 ∷ n / 256 ∷ []
 
 -- four bytes, in two's complement
 abbrev pub bytes4 : ℤ → List ℕ
-bytes4 v = of_z w32 v % 256 ∷ of_z w32 v / 256 % 256 ∷ of_z w32 v / 65536 % 256 ∷ of_z w32 v / 16777216 % 256 ∷ []
+bytes4 v = cast_unsigned w32 v % 256 ∷ cast_unsigned w32 v / 256 % 256 ∷ cast_unsigned w32 v / 65536 % 256 ∷ cast_unsigned w32 v / 16777216 % 256 ∷ []
 
 abbrev pub operand_bytes : List ℤ → List ℕ
 operand_bytes [] = []
