@@ -1,5 +1,5 @@
 -- What the header of a table and that of an image have in common.
-use Rattle.std.specs.Prelude.{◌≡◌, ℕ, ◌≤◌, List, length, slice_index, slice_index_or}
+use Rattle.std.specs.Prelude.{◌≡◌, ℕ, ◌≤◌, List, length, slice_index}
 use Rattle.language.specs.Limits.{IsName}
 use Rattle.format.specs.declared.header.Header.{Header}
 use Rattle.format.specs.declared.header.Kind.{Kind}
@@ -16,8 +16,8 @@ pub record Headed (bytes : List ℕ) : Type 0 where
   pub kind : Kind
   pub kind_is : kind_byte kind ≡ slice_index bytes 4
   pub number : IsName (slice_index bytes 5)
-  pub formals : slice_index_or bytes 6 0 ≤ most_formals kind
-  pub last : slice_index_or bytes 7 0 ≡ 0
+  pub formals : slice_index bytes 6 ≤ most_formals kind
+  pub last : slice_index bytes 7 ≡ 0
 
 -- and what they say
 pub record HeaderAt (bytes : List ℕ) (h : Header) : Type 0 where

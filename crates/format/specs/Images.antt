@@ -1,5 +1,5 @@
 -- What makes bytes an image, and what reading one answers.
-use Rattle.std.specs.Prelude.{◌≡◌, ℕ, ◌*◌, ◌<◌, ◌≤◌, List, length, take, drop, Ok, Err, Result, slice_index_or}
+use Rattle.std.specs.Prelude.{◌≡◌, ℕ, ◌*◌, ◌<◌, ◌≤◌, List, length, take, drop, Ok, Err, Result, slice_index}
 use Rattle.format.specs.declared.header.Header.{Header}
 use Rattle.format.specs.declared.image.Image.{Image}
 use Rattle.format.specs.declared.instr.Instr.{Instr}
@@ -28,7 +28,7 @@ pub record InstrAt (codes operands : List ℕ) (h : Header) (i : ℕ) (x : Instr
   pub few : length codes ≤ 6144
   pub within : i < length codes
   pub belongs : Belongs h (length codes) x
-  pub code_is : slice_index_or codes i 0 ≡ code x
+  pub code_is : slice_index codes i ≡ code x
   pub operand_is : take 4 (drop (4 * i) operands) ≡ bytes4 (operand x)
 
 abbrev pub NoInstrAt : List ℕ → List ℕ → Header → ℕ → Type 0

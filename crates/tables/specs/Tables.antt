@@ -1,5 +1,5 @@
 -- What makes bytes the table of a definition.
-use Rattle.std.specs.Prelude.{◌≡◌, ℕ, ◌*◌, ◌<◌, ◌≤◌, List, length, take, drop, nat_lt, slice_index, slice_index_or}
+use Rattle.std.specs.Prelude.{◌≡◌, ℕ, ◌*◌, ◌<◌, ◌≤◌, List, length, take, drop, nat_lt, slice_index}
 use Rattle.language.specs.Tree.{Definition}
 use Rattle.language.specs.Limits.{Fits}
 use Rattle.format.specs.declared.cell.Cell.{Cell}
@@ -27,7 +27,7 @@ formals_in t = slice_index t 6
 pub record CellAt (codes operands : List ℕ) (i : ℕ) (c : Cell) : Type 0 where
   pub within : i < length codes
   pub valid : Valid c
-  pub code_is : slice_index_or codes i 0 ≡ code c
+  pub code_is : slice_index codes i ≡ code c
   pub operand_is : take 4 (drop (4 * i) operands) ≡ bytes4 (operand c)
 
 -- a cell stands there, a FORMAL among the first n and none after
