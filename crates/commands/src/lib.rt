@@ -5,3 +5,4 @@ pub mod answer;
 pub mod command;
 mod hex;
 pub mod line;
+mod number;
