@@ -3,18 +3,13 @@ ghost use Rattle.std.specs.Prelude.{Some};
 ghost use Rattle.commands.specs.Texts.{mistake_text, answer_text};
 
 use crate::command::Mistake;
-use crate::hex::write_hex;
 use format::refusal::Refusal;
-use listing::Listing;
 use std::fmt;
 
-#[derive(Drop)]
+#[derive(Clone, Copy)]
 pub enum Answer {
     Accepted,
     Refused(Refusal),
-    // the bytes of an image
-    Image(Vec<u8>),
-    Listed(Listing),
     Error(Mistake),
 }
 
@@ -24,9 +19,7 @@ impl fmt::Display for Mistake {
     fn fmt<W: fmt::Write>(&self, f: &mut fmt::Formatter<W>) -> fmt::Result {
         match self {
             Mistake::UnknownCommand => {
-                f.write_str(
-                    "unknown command; the commands are: table HEX, translate HEX [ROOM], list HEX",
-                )
+                f.write_str("unknown command; the commands are: table HEX")
             }
             Mistake::MissingWord => {
                 f.write_str("missing word: the command, one blank, then hexadecimal digits")
@@ -40,20 +33,13 @@ impl fmt::Display for Mistake {
             Mistake::OddDigits => {
                 f.write_str("odd number of hexadecimal digits: each byte has two")
             }
-            Mistake::NotDecimal(column) => {
-                write!(f, "no decimal digit (0-9) at column {column}")
-            }
-            Mistake::MissingNumber => {
-                f.write_str("missing number: one or more decimal digits after the blank")
-            }
-            Mistake::LargeNumber => f.write_str("number too large: the largest is 4294967295"),
             Mistake::OutOfMemory => f.write_str("out of memory"),
         }
     }
 }
 
 impl fmt::Display for Answer {
-    ghost output = { λ a. answer_text a };
+    ghost output = { λ a. Some (answer_text a) };
 
     fn fmt<W: fmt::Write>(&self, f: &mut fmt::Formatter<W>) -> fmt::Result {
         match self {
@@ -65,14 +51,6 @@ impl fmt::Display for Answer {
                     Some(index) => write!(f, "refused {number} {word} {index}"),
                     None => write!(f, "refused {number} {word}"),
                 }
-            }
-            Answer::Image(bytes) => {
-                f.write_str("image ")?;
-                write_hex(f, bytes)
-            }
-            Answer::Listed(listing) => {
-                let count = listing.len();
-                write!(f, "{listing}listed {count}")
             }
             Answer::Error(mistake) => write!(f, "error {mistake}"),
         }

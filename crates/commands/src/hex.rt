@@ -1,11 +1,9 @@
 // Lower-case hexadecimal digits, two to a byte.
 ghost use Rattle.std.specs.Prelude.{◌≡◌, ◌<◌, Decides};
-ghost use Rattle.std.specs.Fmt.{WritesOnOk};
 ghost use Rattle.commands.specs.declared.hex.HexError.TheVariants.{OutOfMemory};
-ghost use Rattle.commands.specs.Hex.{digit, hex_of, IsDigit, Checked, Decoded};
+ghost use Rattle.commands.specs.Hex.{digit, IsDigit, Checked, Decoded};
 
 use std::alloc::{AllocError, AllocFailed, Global};
-use std::fmt;
 
 #[derive(Clone, Copy)]
 pub enum HexError {
@@ -75,26 +73,4 @@ pub fn decode(heap: Global, text: &[u8]) -> Result<Vec<u8>, HexError>
         bytes.push(16 * high + low)?;
     }
     Ok(bytes)
-}
-
-// The character of a number below 16.
-fn to_digit(d: u8) -> char
-    requires { d < 16 }
-    ensures { result ≡ digit d }
-{
-    match d {
-        0..=9 => (b'0' + d) as char,
-        _ => (b'a' + (d - 10)) as char,
-    }
-}
-
-// Writes bytes in hexadecimal, the high digit of each first.
-pub(crate) fn write_hex<W: fmt::Write>(f: &mut fmt::Formatter<W>, bytes: &[u8]) -> fmt::Result
-    ensures { WritesOnOk W.Write.write_str_gives f.old result (hex_of bytes.now) f.new }
-{
-    for b in bytes {
-        f.write_char(to_digit(*b / 16))?;
-        f.write_char(to_digit(*b % 16))?;
-    }
-    Ok(())
 }

@@ -5,4 +5,3 @@ pub mod answer;
 pub mod command;
 mod hex;
 pub mod line;
-mod number;

@@ -15,14 +15,5 @@ returns-in-NotDigit-clause-writes g c = rw c.in-NotDigit.is c.write-in-NotDigit.
 pub returns-in-OddDigits-clause-writes : goal.returns-in-OddDigits-clause-writes
 returns-in-OddDigits-clause-writes g c = rw c.in-OddDigits.is c.write_str-in-OddDigits.ensures.writes
 
-pub returns-in-NotDecimal-clause-writes : goal.returns-in-NotDecimal-clause-writes
-returns-in-NotDecimal-clause-writes g c = rw c.in-NotDecimal.is c.write-in-NotDecimal.ensures.writes
-
-pub returns-in-MissingNumber-clause-writes : goal.returns-in-MissingNumber-clause-writes
-returns-in-MissingNumber-clause-writes g c = rw c.in-MissingNumber.is c.write_str-in-MissingNumber.ensures.writes
-
-pub returns-in-LargeNumber-clause-writes : goal.returns-in-LargeNumber-clause-writes
-returns-in-LargeNumber-clause-writes g c = rw c.in-LargeNumber.is c.write_str-in-LargeNumber.ensures.writes
-
 pub returns-in-OutOfMemory-clause-writes : goal.returns-in-OutOfMemory-clause-writes
 returns-in-OutOfMemory-clause-writes g c = rw c.in-OutOfMemory.is c.write_str-in-OutOfMemory.ensures.writes
