@@ -4,14 +4,15 @@
 usage: python3 tools/respell.py     once, at the top, right after /opt/rattle/port/port.py
 
 Types, modules and constructors keep their names, and so do functions of src/, strings, comments, inputs and outputs.
-A dash stays where it joins the names of two functions, as in length-cells.
+A dash stays after length and hex_of, where a lemma says the one of another function, as in length-cells.
+Some of the names are those of commands and console of the unfinished translation, which docs/PORT.md speaks of.
 """
 
 import os
 import re
 import subprocess
 
-# old name, new name
+# old name, new name; table-of, codes-of and the two that end in -append would fall together with others, and get other words
 NAMES = """
 a-long a_long
 a-stand a_stand
