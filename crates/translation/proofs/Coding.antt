@@ -5,7 +5,7 @@ use Rattle.language.specs.Tree.{Exp, LITERAL, VAR, SET, IF, WHILE, BEGIN, APPLY,
 use Rattle.language.specs.Names.{place}
 use Rattle.format.specs.declared.instr.Instr.{Instr}
 use Rattle.format.specs.declared.instr.Instr.TheVariants.{Push, LoadF, LoadG, StoreF, StoreG, Pop, Jump, Jz, Find, Call, Ret, Bind}
-use Rattle.tables.specs.Weight.{weight, together, weights}
+use Rattle.translator.specs.Weight.{weight, together, weights}
 use Rattle.translation.specs.Translation.{load, store, code, sequence, rest, arguments, instrs}
 use Rattle.translation.specs.Laws.{moved, JumpsIn, AllJumpIn, Relocates, Laws}
 

@@ -12,9 +12,9 @@ use Rattle.translation.specs.declared.emit.Source.{Source}
 use Rattle.translation.specs.declared.emit.Place.{Place}
 use Rattle.translation.specs.Translation.{load, store, code, rest, arguments}
 use Rattle.translation.specs.Emission.{over, written, names, SourceCell, SourceCells, Fit, SomeCell, Ready, Emitted, Emits, before, listed, ReadyList, EmitsList}
-use Rattle.tables.proofs.Trees.{head_of, encode_size, size_some}
-use Rattle.tables.proofs.Places.{one_cell, cells_front, cells_back}
-use Rattle.tables.proofs.Steps.{first}
+use Rattle.translator.proofs.Trees.{head_of, encode_size, size_some}
+use Rattle.translator.proofs.Places.{one_cell, cells_front, cells_back}
+use Rattle.translator.proofs.Steps.{first}
 use Rattle.translation.proofs.Coding.{second, third, length-code, weight_some}
 use Rattle.translation.proofs.Writing.{written_append, written_more, written_three, written_two}
 

@@ -10,15 +10,15 @@ use Rattle.format.specs.Layout.{header_bytes, operand_bytes}
 use Rattle.format.specs.Rows.{codes_of, operands_of}
 use Rattle.format.specs.Cells.{encode, header_of}
 use Rattle.format.specs.Instrs.{code as code_of, operand}
-use Rattle.tables.specs.declared.table.Table.{Table}
+use Rattle.translator.specs.declared.table.Table.{Table}
 use Rattle.translation.specs.declared.emit.Source.{Source}
 use Rattle.translation.specs.declared.emit.Place.{Place}
-use Rattle.tables.specs.Tables.{CellAt}
-use Rattle.tables.specs.Reading.{CellsAt}
+use Rattle.translator.specs.Tables.{CellAt}
+use Rattle.translator.specs.Reading.{CellsAt}
 use Rattle.translation.specs.Translation.{code, instrs, image_header, image}
 use Rattle.translation.specs.Emission.{written, over, Fit, Ready, Emits}
 use Rattle.translation.specs.Imaging.{FormalsTo, Named, Holds, HoldsSome, CodeWritten, Imaged, last_of}
-use Rattle.tables.proofs.Places.{one_cell, cells_front, cells_back, formals_nth}
+use Rattle.translator.proofs.Places.{one_cell, cells_front, cells_back, formals_nth}
 use Rattle.translation.proofs.Coding.{length-code, length-instrs}
 use Rattle.translation.proofs.Writing.{written_append, written_whole, over_is}
 

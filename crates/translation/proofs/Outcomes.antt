@@ -11,17 +11,17 @@ use Rattle.format.specs.Layout.{operand_bytes, count_in, codes_in, operands_in}
 use Rattle.format.specs.Rows.{codes_of, operands_of}
 use Rattle.format.specs.Cells.{encode, cells}
 use Rattle.format.specs.Instrs.{code as code_of, operand}
-use Rattle.tables.specs.declared.table.Table.{Table}
-use Rattle.tables.specs.Reading.{Parallel, CellsAt}
-use Rattle.tables.specs.Verdict.{Refused, NoTable, Accepted}
+use Rattle.translator.specs.declared.table.Table.{Table}
+use Rattle.translator.specs.Reading.{Parallel, CellsAt}
+use Rattle.translator.specs.Verdict.{Refused, NoTable, Accepted}
 use Rattle.translation.specs.Translation.{instrs, image}
 use Rattle.translation.specs.Imaging.{Holds, HoldsSome, Imaged}
 use Rattle.translation.specs.Outcome.{Sizes, Translated, Cause, TABLE, SHORT, Refuses, Outcome, answer, Translates}
-use Rattle.tables.proofs.Trees.{encode_size, weight_bound, height_some, height_bound}
+use Rattle.translator.proofs.Trees.{encode_size, weight_bound, height_some, height_bound}
 use Rattle.translation.proofs.Coding.{length-instrs}
 use Rattle.format.proofs.Bytes.{length-operands}
-use Rattle.tables.proofs.Facts.{is_table, facts, one_definition}
-use Rattle.tables.proofs.Only.{one_refusal}
+use Rattle.translator.proofs.Facts.{is_table, facts, one_definition}
+use Rattle.translator.proofs.Only.{one_refusal}
 
 pub length-image : (d : Definition) → length (image d) ≡ 8 + 5 * length (instrs d)
 length-image d =

@@ -10,8 +10,8 @@ use Rattle.format.specs.Cells.{encode, encodes}
 use Rattle.format.specs.Instrs.{code as code_of, operand}
 use Rattle.translation.specs.declared.emit.Source.{Source}
 use Rattle.translation.specs.declared.emit.Place.{Place}
-use Rattle.tables.specs.Tables.{CellAt}
-use Rattle.tables.specs.Reading.{Parallel, CellsAt}
+use Rattle.translator.specs.Tables.{CellAt}
+use Rattle.translator.specs.Reading.{Parallel, CellsAt}
 use Rattle.translation.specs.Translation.{code, rest, arguments}
 
 -- bytes with others over what stood from a place on

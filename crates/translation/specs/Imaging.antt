@@ -10,9 +10,9 @@ use Rattle.format.specs.declared.instr.Instr.{Instr}
 use Rattle.format.specs.declared.instr.Instr.TheVariants.{Ret, Bind}
 use Rattle.format.specs.Rows.{codes_of, operands_of}
 use Rattle.format.specs.Cells.{cells, header_of}
-use Rattle.tables.specs.declared.table.Table.{Table}
-use Rattle.tables.specs.Tables.{CellAt}
-use Rattle.tables.specs.Reading.{Parallel, CellsAt}
+use Rattle.translator.specs.declared.table.Table.{Table}
+use Rattle.translator.specs.Tables.{CellAt}
+use Rattle.translator.specs.Reading.{Parallel, CellsAt}
 use Rattle.translation.specs.Translation.{instrs, image}
 use Rattle.translation.specs.Emission.{written}
 

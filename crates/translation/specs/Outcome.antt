@@ -7,7 +7,7 @@ use Rattle.format.specs.declared.refusal.Refusal.{Refusal}
 use Rattle.format.specs.declared.refusal.Refusal.TheVariants.{Short}
 use Rattle.format.specs.Refusals.{Told, told}
 use Rattle.format.specs.Cells.{cells, table_of}
-use Rattle.tables.specs.Verdict.{Refused, NoTable}
+use Rattle.translator.specs.Verdict.{Refused, NoTable}
 use Rattle.translation.specs.Translation.{instrs, image}
 
 -- N, H and M of a translation: at most three instructions for each cell, and as many, and as high, as a header takes

@@ -4,8 +4,8 @@ ghost use Rattle.language.specs.Names.{place};
 ghost use Rattle.format.specs.declared.cell.Cell.TheVariants.{Set, If, While, Begin, Apply};
 ghost use Rattle.translation.specs.Translation.{load, store};
 ghost use Rattle.format.specs.Rows.{codes_of, operands_of};
-ghost use Rattle.tables.specs.Tables.{CellAt};
-ghost use Rattle.tables.specs.Reading.{Parallel};
+ghost use Rattle.translator.specs.Tables.{CellAt};
+ghost use Rattle.translator.specs.Reading.{Parallel};
 ghost use Rattle.translation.specs.Emission.{written, before, SomeCell, SourceCell, Fit, Ready, Emitted, Emits, ReadyList, EmitsList};
 
 use format::cell::Cell;

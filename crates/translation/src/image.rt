@@ -2,8 +2,8 @@
 ghost use Rattle.std.specs.Prelude.{◌≡◌, ◌+◌, ◌*◌, ◌≤◌, length};
 ghost use Rattle.format.specs.declared.cell.Cell.TheVariants.{Formal};
 ghost use Rattle.format.specs.Rows.{codes_of, operands_of};
-ghost use Rattle.tables.specs.Tables.{CellAt};
-ghost use Rattle.tables.specs.Reading.{Parallel};
+ghost use Rattle.translator.specs.Tables.{CellAt};
+ghost use Rattle.translator.specs.Reading.{Parallel};
 ghost use Rattle.translation.specs.Laws.{Laws};
 ghost use Rattle.translation.specs.Imaging.{FormalAt, FormalsTo, Named, HoldsSome, CodeWritten, Imaged, last_of};
 ghost use Rattle.translation.specs.Outcome.{Translates};
@@ -15,7 +15,7 @@ use format::instr::Instr;
 use format::layout::{HEADER_LEN, Layout, ROW_LEN};
 use format::refusal::Refusal;
 use language::{MAX_FORMALS, Variable};
-use tables::{Table, accept};
+use translator::{Table, accept};
 
 // Writes the image of a table over the front of `out` and tells its length. A refusal leaves `out` as it was.
 pub fn translate(table: &[u8], out: &mut [u8]) -> Result<usize, Refusal>

@@ -2,6 +2,7 @@
 use Rattle.std.proofs.Common.{◌≡◌, ℕ, zero, suc, ◌+◌, ◌*◌, ◌/◌, ◌%◌, ◌<◌, ◌≤◌, true, List, [], ◌∷◌, ◌++◌, map, length, get_or, take, drop, sym, refl, ap, ◌∙◌, subst, arith, length-append, length-drop, take-append-drop, length-take, lt-ltb}
 use Rattle.std.proofs.lemmas.List.{drop-drop, length-map}
 use Rattle.language.specs.Tree.{Exp, Definition, VAL, DEFINE, body, formals, number, depth, size}
+use Rattle.language.specs.Height.{height}
 use Rattle.language.specs.Limits.{Fits, AreNames, InRange}
 use Rattle.format.specs.declared.cell.Cell.{Cell}
 use Rattle.format.specs.declared.cell.Cell.TheVariants.{Literal, Var, Set, If, While, Begin, Apply, Formal}
@@ -15,6 +16,7 @@ use Rattle.format.specs.Cells.{code, operand, encode, cells, is_formal, kind_of,
 use Rattle.format.proofs.Bytes.{take_two}
 use Rattle.translator.specs.declared.expression.Extent.{Extent}
 use Rattle.translator.specs.Tables.{CellAt, Right, AllRight, IsTable}
+use Rattle.translator.specs.Weight.{weight}
 use Rattle.translator.specs.Reading.{Parallel, CellsAt, ExpAt}
 use Rattle.translator.proofs.Trees.{encode_size}
 use Rattle.translator.proofs.Places.{cells_append}
@@ -119,6 +121,8 @@ pub record Decoded (t : List ℕ) (h : Header) (x : Extent) : Type 0 where
   pub table : IsTable t definition
   pub header : h ≡ header_of definition
   pub deep : x.depth ≡ depth (body definition)
+  pub long : x.count ≡ weight (body definition)
+  pub high : x.height ≡ height (body definition)
 
 module _ (t codes operands : List ℕ) (h : Header) (x : Extent) (cut : Cut t codes operands) (par : Parallel codes operands) (at : HeaderAt t h) (flat : h.height ≡ 0) (exp : ExpAt codes operands h.formals x) (low : length codes ≤ x.«end») (high : x.«end» ≤ length codes) where
   join : (ns : Names codes operands 0 h.formals) (d : Definition) → Parts h.kind h.number ns.names exp.e d → Decoded t h x
@@ -147,6 +151,8 @@ module _ (t codes operands : List ℕ) (h : Header) (x : Extent) (cut : Cut t co
         table = record { fits = fits; is = layout_is t codes operands h cs cut at flat long stand ∙ (λ i. layout (header i) (map code (same i)) (map operand (same i))) };
         header = header;
         deep = exp.deep ∙ ap depth (sym p.body_is);
+        long = exp.long ∙ ap weight (sym p.body_is);
+        high = exp.high ∙ ap height (sym p.body_is);
       }
 
   pub decoded : AllRight codes operands h.formals → Decoded t h x

@@ -1,19 +1,23 @@
 -- What is true of the table of a definition, and that it has one definition only.
-use Rattle.std.proofs.Common.{◌≡◌, ℕ, ◌+◌, ◌*◌, ◌≤◌, List, [], ◌∷◌, map, length, get_or, ℤ, sym, refl, ap, ◌∙◌, subst, arith, length-append}
+use Rattle.std.proofs.Common.{◌≡◌, ℕ, ◌+◌, ◌*◌, ◌≤◌, List, [], ◌∷◌, map, length, get_or, sym, refl, ap, ◌∙◌, subst, arith, length-append}
 use Rattle.std.proofs.lemmas.List.{drop-drop, drop_at, take_at, length-map}
 use Rattle.language.specs.Tree.{Definition, VAL, DEFINE, body, formals, number}
-use Rattle.language.specs.Limits.{Fits}
+use Rattle.language.specs.Limits.{Fits, Within}
 use Rattle.format.specs.declared.cell.Cell.{Cell}
 use Rattle.format.specs.declared.cell.Cell.TheVariants.{Formal}
 use Rattle.format.specs.Layout.{operand_bytes, kind_byte, count_in, codes_in, operands_in}
 use Rattle.format.specs.Headers.{most_formals}
 use Rattle.format.specs.Cells.{code, operand, encode, cells, kind_of, table_of}
+use Rattle.format.proofs.Bytes.{length-operands}
 use Rattle.translator.specs.Tables.{Sized, TableHead, formals_in, AllRight, IsTable}
 use Rattle.translator.specs.Reading.{CellsAt}
 use Rattle.translator.proofs.Trees.{encode_size, size_some}
 use Rattle.translator.proofs.Places.{one_cell, cells_front, cells_back}
 use Rattle.translator.proofs.Steps.{one_exp}
 use Rattle.translator.proofs.Arrays.{AllValid, valid_append, ranged_valid, names_valid, cells_of_arrays, right}
+
+pub is_table : {t : List ℕ} {d : Definition} → Within d → t ≡ table_of d → IsTable t d
+is_table w is = record { fits = w.fits; is = is }
 
 pub record Facts (t : List ℕ) (d : Definition) : Type 0 where
   pub sized : Sized t
@@ -24,10 +28,6 @@ pub record Facts (t : List ℕ) (d : Definition) : Type 0 where
   pub many : formals_in t ≡ length (formals d)
   pub kind : get_or t 4 0 ≡ kind_byte (kind_of d)
   pub number_is : get_or t 5 0 ≡ number d
-
-length-operands : (vs : List ℤ) → length (operand_bytes vs) ≡ 4 * length vs
-length-operands [] = refl
-length-operands (v ∷ vs) = omega (arith, length-operands vs)
 
 most : (d : Definition) → Fits d → length (formals d) ≤ most_formals (kind_of d)
 most (VAL x e) f = omega arith

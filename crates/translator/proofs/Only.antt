@@ -31,7 +31,7 @@ module _ (t : List ℕ) where
   distinct_too : {c d : Definition} → IsTable t c → IsTable t d → Distinct (formals c) → Distinct (formals d)
   distinct_too x y h = subst (λ z. Distinct (formals z)) (one_definition x y) h
 
-  one_refusal : {a b : Told} → Refused t a → Refused t b → a ≡ b
+  pub one_refusal : {a b : Told} → Refused t a → Refused t b → a ≡ b
   one_refusal (SIZE z) (SIZE y) = refl
   one_refusal (SIZE z) (HEAD s y) = absurd (z s)
   one_refusal (SIZE z) (CELL s h w) = absurd (z s)

@@ -1,15 +1,15 @@
 -- A place holds one cell at most, and the code and operand there tell which.
-use Rattle.std.proofs.Common.{◌≡◌, ℕ, zero, suc, ◌+◌, ◌*◌, ◌/◌, ◌%◌, ◌<◌, ◌≤◌, cond, eqb, List, [], ◌∷◌, ◌++◌, length, get_or, ℤ, pos, negsuc, sym, refl, ap, ◌∙◌, subst, append-nil, arith}
+use Rattle.std.proofs.Common.{◌≡◌, ℕ, zero, suc, ◌+◌, ◌*◌, ◌/◌, ◌%◌, ◌<◌, ◌≤◌, cond, eqb, List, [], ◌∷◌, ◌++◌, map, length, get_or, ℤ, pos, negsuc, sym, refl, ap, ◌∙◌, subst, inl, inr, append-nil, arith}
 use Rattle.language.specs.Limits.{IsValue}
 use Rattle.format.specs.declared.cell.Cell.{Cell}
 use Rattle.format.specs.declared.cell.Cell.TheVariants.{Literal, Var, Set, If, While, Begin, Apply, Formal}
 use Rattle.format.specs.declared.layout.Row.{Row}
 use Rattle.format.specs.Layout.{bytes4}
-use Rattle.format.specs.Rows.{RowAt}
+use Rattle.format.specs.Rows.{RowAt, NoRow}
 use Rattle.format.specs.Cells.{code, operand, Valid, IsCell, NoCell}
 use Rattle.format.proofs.Bytes.{bytes4_injective}
 use Rattle.translator.specs.Tables.{CellAt}
-use Rattle.translator.specs.Reading.{CellsAt}
+use Rattle.translator.specs.Reading.{Parallel, CellsAt}
 
 natural : ℤ → ℕ
 natural (pos n) = n
@@ -54,6 +54,10 @@ module _ {codes operands : List ℕ} {i : ℕ} where
   pub cell_here : {row : Row} {c : Cell} → RowAt codes operands i row → IsCell row.code row.operand c → CellAt codes operands i c
   cell_here r x = record { within = r.within; valid = x.valid; code_is = sym r.code ∙ x.code_is; operand_is = r.operand.four ∙ ap bytes4 x.operand_is }
 
+  pub no_row_here : {c : Cell} → Parallel codes operands → NoRow codes operands i → CellAt codes operands i c → ⊥
+  no_row_here p (inl past) x = omega (arith, x.within)
+  no_row_here p (inr short) x = omega (arith, x.within, p.long)
+
   pub no_cell_here : {row : Row} → RowAt codes operands i row → NoCell row.code row.operand → (c : Cell) → CellAt codes operands i c → ⊥
   no_cell_here {row} r none c x =
       none c record {
@@ -90,6 +94,11 @@ module _ (codes operands : List ℕ) where
   cells_nth at [] k d x h = absurd (omega arith)
   cells_nth at (c ∷ cs) zero d x h = subst (λ j. CellAt codes operands j c) (omega arith) x.0
   cells_nth at (c ∷ cs) (suc k) d x h = subst (λ j. CellAt codes operands j (get_or cs k d)) (omega arith) (cells_nth (at + 1) cs k d x.1 (omega arith))
+
+  pub formals_nth : (at : ℕ) (xs : List ℕ) (k : ℕ) → k < length xs → CellsAt codes operands at (map Formal xs) → CellAt codes operands (at + k) (Formal (get_or xs k 0))
+  formals_nth at [] k h x = absurd (omega arith)
+  formals_nth at (y ∷ xs) zero h x = subst (λ j. CellAt codes operands j (Formal y)) (omega arith) x.0
+  formals_nth at (y ∷ xs) (suc k) h x = subst (λ j. CellAt codes operands j (Formal (get_or xs k 0))) (omega arith) (formals_nth (at + 1) xs k (omega arith) x.1)
 
   pub meet : (at : ℕ) (cs ds : List Cell) → CellsAt codes operands at cs → CellsAt codes operands at ds → Meet cs ds
   meet at [] ds x y = record { left = ds; right = []; joined = sym (append-nil ds) }

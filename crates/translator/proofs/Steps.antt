@@ -1,15 +1,16 @@
 -- What each exit of the two functions that read prefix cells shows.
-use Rattle.std.proofs.Common.{◌≡◌, ℕ, ◌+◌, ◌-◌, ◌<◌, ◌≤◌, max, List, length, Some, None, sym, ap, ◌∙◌, subst, inl, inr, arith, length-append}
+use Rattle.std.proofs.Common.{◌≡◌, ℕ, ◌+◌, ◌-◌, ◌*◌, ◌<◌, ◌≤◌, max, List, length, Some, None, sym, ap, ◌∙◌, subst, arith, length-append}
 use Rattle.language.specs.Tree.{Exp, nil, cons, count}
 use Rattle.format.specs.declared.cell.Cell.{Cell}
+use Rattle.format.specs.declared.cell.Cell.TheVariants.{Literal, Var, Set, If, While, Begin, Apply, Formal}
 use Rattle.format.specs.declared.layout.Row.{Row}
 use Rattle.format.specs.Rows.{RowAt, NoRow}
 use Rattle.format.specs.Cells.{encode, encodes, parts, NoCell}
 use Rattle.translator.specs.declared.expression.Extent.{Extent}
 use Rattle.translator.specs.Tables.{CellAt}
-use Rattle.translator.specs.Reading.{Parallel, CellsAt, ExpAt, NoExp, ExpsAt, NoExps}
-use Rattle.translator.proofs.Trees.{head_of, parts_in, split, make, unique, encode_size, encodes_size, depth_bound, depths_bound, size_some}
-use Rattle.translator.proofs.Places.{one_cell, no_cell_here, cells_append, cells_front, cells_back, cells_within, meet}
+use Rattle.translator.specs.Reading.{Parallel, CellsAt, ExpAt, NoExp, ExpsAt, NoExps, raised, lift_of, own}
+use Rattle.translator.proofs.Trees.{head_of, parts_in, split, make, unique, encode_size, encodes_size, depth_bound, depths_bound, size_some, between_bound, weight_bound, weights_bound, height_bound, raised_bound}
+use Rattle.translator.proofs.Places.{one_cell, no_row_here, no_cell_here, cells_append, cells_front, cells_back, cells_within, meet}
 
 module _ (codes operands : List ℕ) where
   -- the first cell of an expression, and its parts after it
@@ -20,8 +21,7 @@ module _ (codes operands : List ℕ) where
   one_exp at e f x y = let m = meet codes operands at (encode e) (encode f) x y in unique e f _ _ m.joined
 
   pub no_row : (at : ℕ) → Parallel codes operands → NoRow codes operands at → NoExp codes operands at
-  no_row at p (inl past) e x = omega (arith, (first e x).0.within)
-  no_row at p (inr short) e x = omega (arith, (first e x).0.within, p.long)
+  no_row at p none e x = no_row_here p none (first e x).0
 
   pub no_cell : (at : ℕ) (row : Row) → RowAt codes operands at row → NoCell row.code row.operand → NoExp codes operands at
   no_cell at row r none e x = no_cell_here r none (head_of e) (first e x).0
@@ -39,18 +39,21 @@ module _ (codes operands : List ℕ) where
         let m : count (parts_in e) ≡ n = cc z in
         none (parts_in e) m (first e x).1
 
-    pub whole : (n : ℕ) (p q : Extent) → Some n ≡ parts c → ExpsAt codes operands (at + 1) n p → q.«end» ≡ p.«end» → q.depth ≡ p.depth + 1 → ExpAt codes operands at q
-    whole n p q h x same deep =
+    pub whole : (n k : ℕ) (p q : Extent) → Some n ≡ parts c → k ≡ lift_of c → ExpsAt codes operands (at + 1) n k p → q.«end» ≡ p.«end» → q.depth ≡ p.depth + 1 → q.count ≡ p.count + own c → q.height ≡ max p.height 1 → ExpAt codes operands at q
+    whole n k p q h lift x same deep long high =
         let m = make c x.es (sym h ∙ ap Some (sym x.many)) in
         record {
           e = m.0;
           stand = subst (λ cs. CellsAt codes operands at cs) (sym m.1.cells) (here, x.stand);
           past = same ∙ x.past ∙ omega (arith, ap length m.1.cells);
           deep = deep ∙ omega (arith, x.deep, m.1.deep);
+          long = omega (arith, long, x.long, m.1.long);
+          high = omega (arith, high, x.high ∙ ap (λ k. raised k x.es) lift, m.1.high);
         }
 
-  pub none_left : (at n : ℕ) (q : Extent) → n ≡ 0 → q.«end» ≡ at → q.depth ≡ 0 → ExpsAt codes operands at n q
-  none_left at n q none same flat = record { es = nil; many = sym none; stand = tt; past = omega arith; deep = flat }
+  pub none_left : (at n k : ℕ) (q : Extent) → n ≡ 0 → q.«end» ≡ at → q.depth ≡ 0 → q.count ≡ 0 → q.height ≡ 0 → ExpsAt codes operands at n k q
+  none_left at n k q none same flat short low =
+      record { es = nil; many = sym none; stand = tt; past = omega arith; deep = flat; long = short; high = low }
 
   pub no_first : (at n : ℕ) → 0 < n → NoExp codes operands at → NoExps codes operands at n
   no_first at n h none nil long x = omega arith
@@ -62,28 +65,60 @@ module _ (codes operands : List ℕ) where
       let same : x.e ≡ e = one_exp at x.e e x.stand (cells_front codes operands at (encode e) (encodes es) y) in
       none es (omega arith) (subst (λ k. CellsAt codes operands k (encodes es)) (ap (λ f. at + length (encode f)) (sym same) ∙ sym x.past) (cells_back codes operands at (encode e) (encodes es) y))
 
-  pub joined : (at n : ℕ) (p q r : Extent) → 0 < n → ExpAt codes operands at p → ExpsAt codes operands p.«end» (n - 1) q → r.«end» ≡ q.«end» → r.depth ≡ max p.depth q.depth → ExpsAt codes operands at n r
-  joined at n p q r h x y same deep =
+  pub joined : (at n k : ℕ) (p q r : Extent) → 0 < n → ExpAt codes operands at p → ExpsAt codes operands p.«end» (n - 1) k q → r.«end» ≡ q.«end» → r.depth ≡ max p.depth q.depth → r.count ≡ p.count + q.count → r.height ≡ max p.height (k + q.height) → ExpsAt codes operands at n k r
+  joined at n k p q r h x y same deep long high =
       record {
         es = cons x.e y.es;
         many = omega (arith, y.many);
         stand = cells_append codes operands at (encode x.e) (encodes y.es) x.stand (subst (λ k. CellsAt codes operands k (encodes y.es)) x.past y.stand);
         past = same ∙ y.past ∙ simp length-append (omega (arith, x.past));
         deep = deep ∙ omega (arith, x.deep, y.deep);
+        long = omega (arith, long, x.long, y.long);
+        high = high ∙ omega (arith, x.high, y.high);
       }
 
   -- bounds
-  pub exp_bounds : (at : ℕ) (p : Extent) → ExpAt codes operands at p → (at < length codes) × (at < p.«end») × (p.depth + at ≤ p.«end»)
+  pub exp_bounds : (at : ℕ) (p : Extent) → ExpAt codes operands at p → (at < length codes) × (at < p.«end») × (p.depth + at ≤ p.«end») × (p.count + 1 + 3 * at ≤ 3 * p.«end») × (p.height + at ≤ p.«end»)
   exp_bounds at p x = (
     (first x.e x.stand).0.within,
     omega (arith, x.past, encode_size x.e, size_some x.e),
     omega (arith, x.past, x.deep, encode_size x.e, depth_bound x.e),
+    omega (arith, x.past, x.long, encode_size x.e, weight_bound x.e),
+    omega (arith, x.past, x.high, encode_size x.e, height_bound x.e),
   )
 
-  pub exps_bounds : (at n : ℕ) (p : Extent) → ExpsAt codes operands at n p → p.depth + at ≤ p.«end»
-  exps_bounds at n p x = omega (arith, x.past, x.deep, encodes_size x.es, depths_bound x.es)
+  pub exps_bounds : (at n k : ℕ) (p : Extent) → k ≤ 1 → ExpsAt codes operands at n k p → (p.depth + at ≤ p.«end») × (p.count + n + 3 * at ≤ 3 * p.«end») × (p.height + at ≤ p.«end»)
+  exps_bounds at n k p low x = (
+    omega (arith, x.past, x.deep, encodes_size x.es, depths_bound x.es),
+    omega (arith, x.past, x.long, x.many, encodes_size x.es, weights_bound x.es),
+    omega (arith, x.past, x.high, encodes_size x.es, raised_bound x.es k low),
+  )
+
+  pub exps_within : (at n k : ℕ) (p : Extent) → at ≤ length codes → ExpsAt codes operands at n k p → p.«end» ≤ length codes
+  exps_within at n k p h x = omega (arith, x.past, cells_within codes operands at (encodes x.es) h x.stand)
 
   pub end_within : (at : ℕ) (p : Extent) → ExpAt codes operands at p → p.«end» ≤ length codes
   end_within at p x =
       let b = (first x.e x.stand).0.within in
       omega (arith, x.past, cells_within codes operands at (encode x.e) (omega arith) x.stand)
+
+pub lift_low : (c : Cell) → lift_of c ≤ 1
+lift_low (Literal v) = omega arith
+lift_low (Var x) = omega arith
+lift_low (Set x) = omega arith
+lift_low If = omega arith
+lift_low While = omega arith
+lift_low (Begin n) = omega arith
+lift_low (Apply f n) = omega arith
+lift_low (Formal x) = omega arith
+
+-- a cell adds at most three instructions, beside those that stand between its parts
+pub own_bound : (c : Cell) (n : ℕ) → Some n ≡ parts c → own c ≤ n + 3
+own_bound (Literal v) n h = omega arith
+own_bound (Var x) n h = omega arith
+own_bound (Set x) n h = omega arith
+own_bound If n h = omega arith
+own_bound While n h = let m : n ≡ 2 = cc h in omega arith
+own_bound (Begin k) n h = let m : n ≡ k = cc h in omega (arith, between_bound k)
+own_bound (Apply f k) n h = omega arith
+own_bound (Formal x) n h = omega arith

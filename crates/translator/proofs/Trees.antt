@@ -1,9 +1,12 @@
 -- Prefix codes: an expression by its first cell and its parts, and that cells begin with one expression at most.
-use Rattle.std.proofs.Common.{◌≡◌, ℕ, zero, suc, ◌<◌, ◌≤◌, List, [], ◌∷◌, ◌++◌, length, Some, None, Option, sym, refl, ap, ◌∙◌, subst, append_assoc, append-nil, arith, length-append}
+use Rattle.std.proofs.Common.{◌≡◌, ℕ, zero, suc, ◌+◌, ◌*◌, ◌<◌, ◌≤◌, max, List, [], ◌∷◌, ◌++◌, length, Some, None, Option, sym, refl, ap, ◌∙◌, subst, append_assoc, append-nil, arith, length-append}
 use Rattle.language.specs.Tree.{Exp, LITERAL, VAR, SET, IF, WHILE, BEGIN, APPLY, Exps, nil, cons, count, size, sizes, depth, depths}
 use Rattle.format.specs.declared.cell.Cell.{Cell}
 use Rattle.format.specs.declared.cell.Cell.TheVariants.{Literal, Var, Set, If, While, Begin, Apply, Formal}
 use Rattle.format.specs.Cells.{encode, encodes, parts}
+use Rattle.language.specs.Height.{height, highest, stacked}
+use Rattle.translator.specs.Reading.{raised, lift_of, between, own}
+use Rattle.translator.specs.Weight.{weight, together, weights}
 
 abbrev pub head_of : Exp → Cell
 head_of (LITERAL v) = Literal v
@@ -28,15 +31,49 @@ pub record Split (e : Exp) (c : Cell) (es : Exps) : Type 0 where
   pub cells : encode e ≡ c ∷ encodes es
   pub many : parts c ≡ Some (count es)
   pub deep : depth e ≡ suc (depths es)
+  pub long : weight e ≡ weights es + own c
+  pub high : height e ≡ max 1 (raised (lift_of c) es)
+
+-- no expression is flat
+mutual
+  pub height_some : (e : Exp) → 0 < height e
+  height_some (LITERAL v) = omega arith
+  height_some (VAR x) = omega arith
+  height_some (SET x e) = height_some e
+  height_some (IF c a b) = omega (arith, height_some c)
+  height_some (WHILE c b) = omega (arith, height_some c)
+  height_some (BEGIN es) = omega arith
+  height_some (APPLY f es) = omega arith
+
+-- the height of arguments, from the last to the first
+stacked_raised : (i : ℕ) (e : Exp) (es : Exps) → stacked i (cons e es) ≡ i + raised 1 (cons e es)
+stacked_raised i e nil = omega (arith, height_some e)
+stacked_raised i e (cons f es) = omega (arith, stacked_raised (suc i) f es)
+
+highest_raised : (es : Exps) → highest es ≡ raised 0 es
+highest_raised nil = refl
+highest_raised (cons e es) = omega (arith, highest_raised es)
+
+together_own : (es : Exps) → together es ≡ weights es + between (count es)
+together_own nil = refl
+together_own (cons e es) = omega arith
+
+pub between_bound : (n : ℕ) → between n ≤ n + 1
+between_bound zero = omega arith
+between_bound (suc n) = omega arith
+
+applied : (es : Exps) → max 1 (stacked 0 es) ≡ max 1 (raised 1 es)
+applied nil = refl
+applied (cons e es) = ap (max 1) (stacked_raised 0 e es ∙ omega arith)
 
 pub split : (e : Exp) → Split e (head_of e) (parts_in e)
-split (LITERAL v) = record { cells = refl; many = refl; deep = refl }
-split (VAR x) = record { cells = refl; many = refl; deep = refl }
-split (SET x e) = record { cells = rw (append-nil (encode e)) refl; many = refl; deep = omega arith }
-split (IF c a b) = record { cells = rw (append-nil (encode b)) refl; many = refl; deep = omega arith }
-split (WHILE c b) = record { cells = rw (append-nil (encode b)) refl; many = refl; deep = omega arith }
-split (BEGIN es) = record { cells = refl; many = refl; deep = refl }
-split (APPLY f es) = record { cells = refl; many = refl; deep = refl }
+split (LITERAL v) = record { cells = refl; many = refl; deep = refl; long = refl; high = refl }
+split (VAR x) = record { cells = refl; many = refl; deep = refl; long = refl; high = refl }
+split (SET x e) = record { cells = rw (append-nil (encode e)) refl; many = refl; deep = omega arith; long = omega arith; high = omega (arith, height_some e) }
+split (IF c a b) = record { cells = rw (append-nil (encode b)) refl; many = refl; deep = omega arith; long = omega arith; high = omega (arith, height_some c) }
+split (WHILE c b) = record { cells = rw (append-nil (encode b)) refl; many = refl; deep = omega arith; long = omega arith; high = omega (arith, height_some c) }
+split (BEGIN es) = record { cells = refl; many = refl; deep = refl; long = together_own es; high = ap (max 1) (highest_raised es) }
+split (APPLY f es) = record { cells = refl; many = refl; deep = refl; long = refl; high = applied es }
 
 amount : Option ℕ → ℕ
 amount None = 0
@@ -175,3 +212,32 @@ size_some (IF c a b) = omega arith
 size_some (WHILE c b) = omega arith
 size_some (BEGIN es) = omega arith
 size_some (APPLY f es) = omega arith
+
+-- at most three instructions for each cell, with the one that ends an image
+mutual
+  pub weight_bound : (e : Exp) → weight e + 1 ≤ 3 * size e
+  weight_bound (LITERAL v) = omega arith
+  weight_bound (VAR x) = omega arith
+  weight_bound (SET x e) = omega (arith, weight_bound e)
+  weight_bound (IF c a b) = omega (arith, weight_bound c, weight_bound a, weight_bound b)
+  weight_bound (WHILE c b) = omega (arith, weight_bound c, weight_bound b)
+  weight_bound (BEGIN es) = omega (arith, weights_bound es, together_own es, between_bound (count es))
+  weight_bound (APPLY f es) = omega (arith, weights_bound es)
+
+  pub weights_bound : (es : Exps) → weights es + count es ≤ 3 * sizes es
+  weights_bound nil = omega arith
+  weights_bound (cons e es) = omega (arith, weight_bound e, weights_bound es)
+
+mutual
+  pub height_bound : (e : Exp) → height e ≤ size e
+  height_bound (LITERAL v) = omega arith
+  height_bound (VAR x) = omega arith
+  height_bound (SET x e) = omega (arith, height_bound e)
+  height_bound (IF c a b) = omega (arith, height_bound c, height_bound a, height_bound b)
+  height_bound (WHILE c b) = omega (arith, height_bound c, height_bound b)
+  height_bound (BEGIN es) = omega (arith, raised_bound es 0 (omega arith), highest_raised es)
+  height_bound (APPLY f es) = omega (arith, raised_bound es 1 (omega arith), applied es)
+
+  pub raised_bound : (es : Exps) (k : ℕ) → k ≤ 1 → raised k es ≤ sizes es
+  raised_bound nil k low = omega arith
+  raised_bound (cons e es) k low = omega (arith, height_bound e, raised_bound es k low, height_some e)

@@ -1,8 +1,8 @@
 -- What each answer of the check of a table rests on.
-use Rattle.std.proofs.Common.{◌≡◌, ℕ, zero, suc, ◌+◌, ◌<◌, ◌≤◌, List, [], ◌∷◌, map, length, get_or, pos, sym, ap, ◌∙◌, subst, arith}
+use Rattle.std.proofs.Common.{◌≡◌, ℕ, ◌+◌, ◌<◌, ◌≤◌, List, map, length, get_or, pos, sym, ap, ◌∙◌, subst, arith}
 use Rattle.std.proofs.lemmas.List.{length-map}
 use Rattle.language.specs.Tree.{Definition, formals, body}
-use Rattle.language.specs.Limits.{Distinct, Shallow, Within}
+use Rattle.language.specs.Limits.{Distinct, Shallow}
 use Rattle.format.specs.declared.cell.Cell.{Cell}
 use Rattle.format.specs.declared.cell.Cell.TheVariants.{Formal}
 use Rattle.format.specs.declared.header.Header.{Header}
@@ -11,20 +11,17 @@ use Rattle.format.specs.Refusals.{told}
 use Rattle.format.specs.Layout.{bytes4, codes_in, operands_in}
 use Rattle.format.specs.Headers.{HeaderAt}
 use Rattle.format.specs.Rows.{codes_of, operands_of, Cut}
-use Rattle.format.specs.Cells.{encode, table_of}
+use Rattle.format.specs.Cells.{encode}
 use Rattle.format.proofs.Bytes.{bytes4_injective}
 use Rattle.translator.specs.declared.expression.Extent.{Extent}
 use Rattle.translator.specs.declared.table.Table.{Table}
 use Rattle.translator.specs.Tables.{Sized, TableHead, formals_in, CellAt, AllRight, FirstWrong, wrong, missing, IsTable}
 use Rattle.translator.specs.Verdict.{Passed, Refused, SIZE, HEAD, CELL, SHAPE, TWICE, NEST, NoTable, Accepted}
 use Rattle.translator.specs.Reading.{Parallel, CellsAt, ExpAt, NoExp, Repeated, NoneRepeated}
-use Rattle.translator.proofs.Places.{operand_value, cells_front, cells_back}
+use Rattle.translator.proofs.Places.{operand_value, cells_front, cells_back, formals_nth}
 use Rattle.translator.proofs.Steps.{one_exp}
-use Rattle.translator.proofs.Facts.{facts, one_definition}
+use Rattle.translator.proofs.Facts.{is_table, facts, one_definition}
 use Rattle.translator.proofs.Decoded.{Decoded, sizes}
-
-is_table : {t : List ℕ} {d : Definition} → Within d → t ≡ table_of d → IsTable t d
-is_table w is = record { fits = w.fits; is = is }
 
 passes : {t : List ℕ} {d : Definition} → IsTable t d → Passed t
 passes x = let f = facts x in record { sized = f.sized; head = f.head; right = f.right }
@@ -90,15 +87,10 @@ module _ (t codes operands : List ℕ) (cut : Cut t codes operands) where
         let long : length codes ≡ length (formals d) + length (encode (body d)) = ap length cut.codes_are ∙ (facts y).long in
         omega (arith, long, ap (λ e. length (encode e)) same, exp.past, (facts y).many, at.formals))
 
-    formal_at : (codes operands : List ℕ) (at : ℕ) (xs : List ℕ) (k : ℕ) → k < length xs → CellsAt codes operands at (map Formal xs) → CellAt codes operands (at + k) (Formal (get_or xs k 0))
-    formal_at codes operands at [] k h x = absurd (omega arith)
-    formal_at codes operands at (y ∷ xs) zero h x = subst (λ j. CellAt codes operands j (Formal y)) (omega arith) x.0
-    formal_at codes operands at (y ∷ xs) (suc k) h x = subst (λ j. CellAt codes operands j (Formal (get_or xs k 0))) (omega arith) (formal_at codes operands (at + 1) xs k (omega arith) x.1)
-
     formal_here : {d : Definition} → IsTable t d → (k : ℕ) → k < length (formals d) → CellAt codes operands k (Formal (get_or (formals d) k 0))
     formal_here {d} x k lt =
         let front = out 0 (map Formal (formals d)) (cells_front (codes_in t) (operands_in t) 0 (map Formal (formals d)) (encode (body d)) (facts x).stand) in
-        subst (λ j. CellAt codes operands j (Formal (get_or (formals d) k 0))) (omega arith) (formal_at codes operands 0 (formals d) k lt front)
+        subst (λ j. CellAt codes operands j (Formal (get_or (formals d) k 0))) (omega arith) (formals_nth codes operands 0 (formals d) k lt front)
 
     count_is : {d : Definition} → IsTable t d → length (formals d) ≡ h.formals
     count_is x = sym (facts x).many ∙ sym at.formals
@@ -132,8 +124,8 @@ module _ (t codes operands : List ℕ) (cut : Cut t codes operands) where
           let never : Shallow m.definition → ⊥ = λ s. omega (arith, m.deep) in
           (NEST (passes m.table) m.table (distinct_from m.table none) never, λ d w is. never (subst Shallow (only d (is_table w is)) w.shallow))
 
-      pub accepted : (r : Table) → r.header ≡ h → codes_of r.cells ≡ codes → operands_of r.cells ≡ operands → NoneRepeated operands h.formals → x.depth ≤ 200 → Accepted t r
-      accepted r same same_codes same_operands none shallow =
+      pub accepted : (r : Table) → r.header ≡ h → codes_of r.cells ≡ codes → operands_of r.cells ≡ operands → r.count ≡ x.count + 1 → r.height ≡ x.height → NoneRepeated operands h.formals → x.depth ≤ 200 → Accepted t r
+      accepted r same same_codes same_operands long high none shallow =
           record {
             definition = m.definition;
             within = record { fits = m.table.fits; distinct = distinct_from m.table none; shallow = omega (arith, m.deep) };
@@ -142,4 +134,6 @@ module _ (t codes operands : List ℕ) (cut : Cut t codes operands) where
             header = same ∙ m.header;
             codes = same_codes ∙ cut.codes_are;
             operands = same_operands ∙ cut.operands_are;
+            counted = omega (arith, long, m.long);
+            high = high ∙ m.high;
           }

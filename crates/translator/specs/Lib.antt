@@ -1,3 +1,4 @@
+pub mod Weight
 pub mod Tables
 pub mod Verdict
 pub mod Reading

@@ -1,6 +1,7 @@
 -- What the check of a table answers.
-use Rattle.std.specs.Prelude.{◌≡◌, ℕ, List, Ok, Err, Result, ◌≢◌}
-use Rattle.language.specs.Tree.{Definition, formals}
+use Rattle.std.specs.Prelude.{◌≡◌, ℕ, ◌+◌, List, Ok, Err, Result, ◌≢◌}
+use Rattle.language.specs.Tree.{Definition, body, formals}
+use Rattle.language.specs.Height.{height}
 use Rattle.language.specs.Limits.{Distinct, Shallow, Within}
 use Rattle.format.specs.declared.header.Header.{Header}
 use Rattle.format.specs.declared.refusal.Refusal.{Refusal}
@@ -10,6 +11,7 @@ use Rattle.format.specs.Layout.{codes_in, operands_in}
 use Rattle.format.specs.Rows.{codes_of, operands_of}
 use Rattle.format.specs.Cells.{header_of, table_of}
 use Rattle.translator.specs.declared.table.Table.{Table}
+use Rattle.translator.specs.Weight.{weight}
 use Rattle.translator.specs.Tables.{Sized, TableHead, formals_in, AllRight, FirstWrong, IsTable}
 
 -- the tests of SIZE, HEAD and CELL are passed
@@ -36,6 +38,8 @@ pub record Accepted (t : List ℕ) (r : Table) : Type 0 where
   pub header : r.header ≡ header_of definition
   pub codes : codes_of r.cells ≡ codes_in t
   pub operands : operands_of r.cells ≡ operands_in t
+  pub counted : r.count ≡ weight (body definition) + 1
+  pub high : r.height ≡ height (body definition)
 
 abbrev pub NoTable : List ℕ → Type 0
 NoTable t = (d : Definition) → Within d → t ≢ table_of d

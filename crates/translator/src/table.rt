@@ -12,7 +12,11 @@ use language::{MAX_CELLS, MAX_DEPTH};
 #[derive(Clone, Copy)]
 pub struct Table<'a> {
     pub header: Header,
-    cells: Layout<'a>,
+    pub cells: Layout<'a>,
+    // how many instructions its image has
+    pub count: u16,
+    // the height of its expression
+    pub height: u16,
 }
 
 // The table that the bytes are, or the first thing that is wrong with them.
@@ -47,5 +51,10 @@ pub fn accept(table: &[u8]) -> Result<Table<'_>, Refusal>
     if body.depth > MAX_DEPTH {
         return Err(Refusal::Nest);
     }
-    Ok(Table { header, cells })
+    Ok(Table {
+        header,
+        cells,
+        count: body.count + 1,
+        height: body.height,
+    })
 }

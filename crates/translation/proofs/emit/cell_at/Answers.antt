@@ -1,4 +1,4 @@
-use Rattle.tables.proofs.Places.{no_cell_here, no_row_here}
+use Rattle.translator.proofs.Places.{no_cell_here, no_row_here}
 use Rattle.translation.proofs.emit.cell_at.Goals as goal
 
 pub unreachable-requires : goal.unreachable-requires

@@ -1,4 +1,4 @@
-use Rattle.tables.proofs.Places.{one_cell}
+use Rattle.translator.proofs.Places.{one_cell}
 use Rattle.translation.proofs.image.formal_at.Goals as goal
 
 pub unreachable-requires : goal.unreachable-requires

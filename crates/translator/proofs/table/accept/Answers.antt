@@ -1,5 +1,5 @@
 use Rattle.std.proofs.Common.{refl, ◌∙◌, arith}
-use Rattle.translator.proofs.Steps.{end_within}
+use Rattle.translator.proofs.Steps.{exp_bounds, end_within}
 use Rattle.translator.proofs.Decoded.{decoded}
 use Rattle.translator.proofs.Verdicts.{refuse_size, refuse_head, some_sized, sized_some, parallel, refuse_cell, no_body, left_over, refuse_twice, refuse_nest, accepted}
 use Rattle.translator.proofs.Only.{answered}
@@ -64,10 +64,16 @@ returns-then-body-gt-MAX_DEPTH c =
     let m = decoded _ _ _ _ c.in-Some-read_expression.body cut (parallel _ _ _ cut (omega arith)) at c.if-header-ne0.false exp (omega arith) (end_within _ _ _ _ exp) c.in_default-first_wrong.ensures in
     answered _ _ (refuse_nest _ _ _ cut _ at _ m c.if-has_repeated.ensures c.if-body-gt-MAX_DEPTH.true)
 
+pub overflow_add-result : goal.overflow_add-result
+overflow_add-result c =
+    let exp = c.in-Some-read_expression.ensures in
+    let few = (parallel _ _ _ c.in-Some.ensures (omega arith)).few in
+    omega (arith, few, (exp_bounds _ _ _ _ exp).3, end_within _ _ _ _ exp)
+
 pub returns : goal.returns
 returns c =
     let cut = c.in-Some.ensures in
     let at = c.in-Some-read.ensures in
     let exp = c.in-Some-read_expression.ensures in
     let m = decoded _ _ _ _ c.in-Some-read_expression.body cut (parallel _ _ _ cut (omega arith)) at c.if-header-ne0.false exp (omega arith) (end_within _ _ _ _ exp) c.in_default-first_wrong.ensures in
-    answered _ _ (accepted _ _ _ cut _ at _ m _ refl refl refl c.if-has_repeated.ensures c.if-body-gt-MAX_DEPTH.false)
+    answered _ _ (accepted _ _ _ cut _ at _ m _ refl refl refl refl refl c.if-has_repeated.ensures c.if-body-gt-MAX_DEPTH.false)

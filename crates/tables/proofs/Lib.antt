@@ -1,8 +1,0 @@
-pub mod Trees
-pub mod Places
-pub mod Steps
-pub mod Arrays
-pub mod Facts
-pub mod Decoded
-pub mod Verdicts
-pub mod Only

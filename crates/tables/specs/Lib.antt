@@ -1,4 +1,0 @@
-pub mod Weight
-pub mod Tables
-pub mod Verdict
-pub mod Reading

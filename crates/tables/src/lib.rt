@@ -1,8 +1,0 @@
-// Tables of definitions: whether bytes are one, and what is wrong with them otherwise.
-#![tactic(auto)]
-
-mod cells;
-mod expression;
-mod table;
-
-pub use table::{Table, accept};
