@@ -1,19 +1,25 @@
 -- What each answer of reading an image rests on.
-use Rattle.std.proofs.Common.{◌≡◌, ℕ, ◌*◌, ◌<◌, ◌≤◌, List, length, drop, sym, ap, ◌∙◌, subst, inl, inr, arith, length-drop, length-take}
+use Rattle.std.proofs.Common.{◌≡◌, ℕ, ◌<◌, ◌≤◌, List, length, drop, None, Some, Option, MatchOption, false, true, is_none, rules, sym, ap, ◌∙◌, subst, arith, length-drop, length-take}
 use Rattle.format.specs.declared.header.Header.{Header}
 use Rattle.format.specs.declared.image.Image.{Image}
 use Rattle.format.specs.declared.refusal.Refusal.TheVariants.{Code}
 use Rattle.format.specs.Refusals.{told}
-use Rattle.format.specs.Layout.{count_in, codes_in, operands_in}
-use Rattle.format.specs.Headers.{HeaderAt}
-use Rattle.format.specs.Rows.{Cut, NoRow}
-use Rattle.format.specs.Images.{ImageSized, ImageHead, NoInstrAt, AllInstrs, FirstNoInstr, ImageRefused, CODE, codes_of_image, operands_of_image, ImageIn}
+use Rattle.format.specs.Layout.{bytes4, count_in, codes_in, operands_in}
+use Rattle.format.specs.declared.header.Kind.{Kind}
+use Rattle.format.specs.declared.header.Kind.TheVariants.{Function, Variable}
+use Rattle.format.specs.Headers.{most_formals, HeaderAt}
+use Rattle.format.specs.declared.instr.Instr.{Instr}
+use Rattle.format.specs.declared.layout.Row.{Row}
+use Rattle.format.specs.Rows.{Cut, RowAt}
+use Rattle.format.specs.declared.instr.Instr.TheVariants.{Push, LoadF, LoadG, StoreF, StoreG, Pop, Jump, Jz, Find, Call, Ret, Bind}
+use Rattle.format.specs.Instrs.{NoInstr, IsInstr, Belongs, operand}
+use Rattle.language.specs.Limits.{IsValue}
+use Rattle.format.specs.Images.{ImageSized, ImageHead, InstrIn, NoInstrIn, HasInstr, AllInstrs, FirstNoInstr, ImageRefused, CODE, codes_of_image, operands_of_image, ImageIn}
+use Rattle.format.proofs.Bytes.{bytes4_injective}
 
-module _ (codes operands : List ℕ) (h : Header) (i : ℕ) where
-  pub no_row_here : NoRow codes operands i → NoInstrAt codes operands h i
-  no_row_here (inl past) x y = omega (arith, y.within)
-  no_row_here (inr short) x y =
-      omega (arith, length-take 4 (drop (4 * i) operands), length-drop (4 * i) operands, ap length y.operand_is)
+most_low : (k : Kind) → most_formals k < 16
+most_low Function = omega arith
+most_low Variable = omega arith
 
 module _ (bytes codes operands : List ℕ) (cut : Cut bytes codes operands) where
   count_is : length codes ≡ count_in bytes
@@ -27,6 +33,9 @@ module _ (bytes codes operands : List ℕ) (cut : Cut bytes codes operands) wher
   sized_some s = (omega (arith, count_is, s.some), omega (arith, count_is, s.few))
 
   module _ (h : Header) (at : HeaderAt bytes h) where
+    pub formals_few : h.formals < 16
+    formals_few = omega (arith, at.formals, at.headed.formals, most_low at.headed.kind)
+
     pub some_head : 0 < h.height → h.height ≤ 2048 → ImageHead bytes
     some_head some low = record { some = omega (arith, at.height); low = omega (arith, at.height); headed = at.headed }
 
@@ -44,3 +53,33 @@ module _ (bytes codes operands : List ℕ) (cut : Cut bytes codes operands) wher
           operands = same_operands ∙ cut.operands_are;
           each = subst (AllInstrs (codes_in bytes) (operands_in bytes)) (sym same) (subst (λ l. AllInstrs (codes_in bytes) l h) cut.operands_are (subst (λ l. AllInstrs l operands h) cut.codes_are all));
         }
+
+instr_value : (h : Header) (n : ℕ) → h.formals < 256 → h.number < 256 → n ≤ 6144 → (x : Instr) → Belongs h n x → IsValue (operand x)
+instr_value h n formals number few (Push v) b = b
+instr_value h n formals number few (LoadF i) b = omega (arith, b, formals)
+instr_value h n formals number few (LoadG x) b = omega (arith, b)
+instr_value h n formals number few (StoreF i) b = omega (arith, b, formals)
+instr_value h n formals number few (StoreG x) b = omega (arith, b)
+instr_value h n formals number few Pop b = omega arith
+instr_value h n formals number few (Jump t) b = omega (arith, b, few)
+instr_value h n formals number few (Jz t) b = omega (arith, b, few)
+instr_value h n formals number few (Find f) b = omega (arith, b)
+instr_value h n formals number few (Call f k) b = omega (arith, b.0, b.1)
+instr_value h n formals number few Ret b = omega arith
+instr_value h n formals number few (Bind x) b = omega (arith, b.1, number)
+
+-- what the instruction of a row tells of the image
+module _ (image : Image) (i : ℕ) (row : Row) (at : RowAt image.instrs i row) (few : length (codes_of_image image) ≤ 6144) (formals : image.header.formals < 256) (number : image.header.number < 256) where
+  pub instr_in : (r : Option Instr) → MatchOption r (NoInstr image.header (length (codes_of_image image)) row.code row.operand) (IsInstr image.header (length (codes_of_image image)) row.code row.operand) → MatchOption r (NoInstrIn image i) (InstrIn image i)
+  instr_in None none = λ x here. none x record { belongs = here.belongs; code_is = at.code ∙ here.code_is; operand_is = bytes4_injective _ _ at.operand.value (instr_value image.header (length (codes_of_image image)) formals number few x here.belongs) (sym at.operand.four ∙ here.operand_is) }
+  instr_in (Some x) is = record { few = few; within = at.within; belongs = is.belongs; code_is = sym at.code ∙ is.code_is; operand_is = at.operand.four ∙ ap bytes4 is.operand_is }
+
+-- what looking at each instruction tells of the image
+module _ (image : Image) where
+  pub some_instr : (i : ℕ) (r : Option Instr) → MatchOption r (NoInstrIn image i) (InstrIn image i) → is_none r ≡ false → HasInstr (codes_of_image image) (operands_of_image image) image.header i
+  some_instr i None none e = absurd (search (e, rules))
+  some_instr i (Some x) here e = record { instr = x; here = here }
+
+  pub no_instr : (i : ℕ) (r : Option Instr) → MatchOption r (NoInstrIn image i) (InstrIn image i) → is_none r ≡ true → NoInstrIn image i
+  no_instr i None none e = none
+  no_instr i (Some x) here e = absurd (search (e, rules))

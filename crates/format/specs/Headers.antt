@@ -1,10 +1,15 @@
 -- What the header of a table and that of an image have in common.
-use Rattle.std.specs.Prelude.{◌≡◌, ℕ, ◌≤◌, List, length, slice_index}
+use Rattle.std.specs.Prelude.{◌≡◌, ℕ, ◌≤◌, List, length, Result, MatchResult, slice_index}
 use Rattle.language.specs.Limits.{IsName}
 use Rattle.format.specs.declared.header.Header.{Header}
 use Rattle.format.specs.declared.header.Kind.{Kind}
+use Rattle.format.specs.declared.header.UnknownKind.{UnknownKind}
 use Rattle.format.specs.declared.header.Kind.TheVariants.{Function, Variable}
 use Rattle.format.specs.Layout.{kind_byte, u16_at}
+
+-- the kind that a byte stands for
+abbrev pub KindOf : ℕ → Result Kind UnknownKind → Type 0
+KindOf byte r = MatchResult r (λ kind. kind_byte kind ≡ byte) (λ e. (e.0 ≡ byte) × (2 ≤ byte))
 
 -- a variable has no formals
 abbrev pub most_formals : Kind → ℕ

@@ -60,6 +60,19 @@ codes_of_image r = codes_of r.instrs
 abbrev pub operands_of_image : Image → List ℕ
 operands_of_image r = operands_of r.instrs
 
+-- instruction i of an image
+abbrev pub InstrIn : Image → ℕ → Instr → Type 0
+InstrIn r i x = InstrAt (codes_of_image r) (operands_of_image r) r.header i x
+
+abbrev pub NoInstrIn : Image → ℕ → Type 0
+NoInstrIn r i = NoInstrAt (codes_of_image r) (operands_of_image r) r.header i
+
+abbrev pub EachInstr : Image → Type 0
+EachInstr r = AllInstrs (codes_of_image r) (operands_of_image r) r.header
+
+abbrev pub FirstWrong : Image → ℕ → Type 0
+FirstWrong r i = FirstNoInstr (codes_of_image r) (operands_of_image r) r.header i
+
 -- the image that the bytes are
 pub record ImageIn (bytes : List ℕ) (r : Image) : Type 0 where
   pub sized : ImageSized bytes

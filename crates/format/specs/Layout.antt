@@ -1,5 +1,6 @@
 -- The bytes of a table or an image: a header of eight, then the codes, then the operands, four bytes each. Numbers are little-endian.
-use Rattle.std.specs.Prelude.{ℕ, ◌+◌, ◌*◌, ◌/◌, ◌%◌, List, [], ◌∷◌, ◌++◌, length, take, drop, ℤ, slice_index}
+use Rattle.std.specs.Prelude.{◌≡◌, ℕ, ◌+◌, ◌*◌, ◌/◌, ◌%◌, ◌<◌, List, [], ◌∷◌, ◌++◌, length, take, drop, ℤ, slice_index}
+use Rattle.std.specs.List.{All}
 use Rattle.std.specs.Int.{w32, cast_unsigned}
 use Rattle.format.specs.declared.header.Header.{Header}
 use Rattle.format.specs.declared.header.Kind.{Kind}
@@ -42,3 +43,12 @@ codes_in bytes = take (count_in bytes) (drop 8 bytes)
 
 abbrev pub operands_in : List ℕ → List ℕ
 operands_in bytes = drop (8 + count_in bytes) bytes
+
+pub record FourBytes (bytes : List ℕ) : Type 0 where
+  pub four : length bytes ≡ 4
+  pub small : All (λ b. b < 256) bytes
+
+-- an operand of four bytes for each code
+pub record Parallel (codes : List ℕ) (operands : List (List ℕ)) : Type 0 where
+  pub as_many : length operands ≡ length codes
+  pub each : All FourBytes operands

@@ -4,6 +4,5 @@ pub mod Headers
 pub mod Rows
 pub mod Cells
 pub mod Instrs
-pub mod Others
 pub mod Images
 pub mod Heights

@@ -1,5 +1,5 @@
 -- What each refusal tells: its number, its word and, for CELL and CODE, an index.
-use Rattle.std.specs.Prelude.{ℕ, List, Some, None, codes, Option}
+use Rattle.std.specs.Prelude.{ℕ, List, [], ◌++◌, Some, None, codes, decimal, Option}
 use Rattle.format.specs.declared.refusal.Refusal.{Refusal}
 use Rattle.format.specs.declared.refusal.Refusal.TheVariants.{Size, Head, Cell, Shape, Twice, Nest, Short, Kind, Code, Height, Busy, Full, Idle, Limit}
 
@@ -23,3 +23,11 @@ told Busy = record { number = 11; word = codes "BUSY"; index = None }
 told Full = record { number = 12; word = codes "FULL"; index = None }
 told Idle = record { number = 13; word = codes "IDLE"; index = None }
 told Limit = record { number = 14; word = codes "LIMIT"; index = None }
+
+abbrev pub index_text : Option ℕ → List ℕ
+index_text None = []
+index_text (Some i) = codes " " ++ decimal i
+
+-- the number, the word and, where there is one, the index
+abbrev pub refusal_text : Refusal → List ℕ
+refusal_text r = decimal (told r).number ++ (codes " " ++ ((told r).word ++ index_text (told r).index))

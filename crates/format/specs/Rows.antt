@@ -1,16 +1,17 @@
 -- The codes and operands that bytes hold.
-use Rattle.std.specs.Prelude.{◌≡◌, ℕ, ◌+◌, ◌*◌, ◌<◌, ◌≤◌, ◌⊎◌, List, length, take, drop, ℤ, slice_index}
+use Rattle.std.specs.Prelude.{◌≡◌, ℕ, ◌+◌, ◌*◌, ◌<◌, ◌≤◌, List, length, take, drop, ℤ, slice_index}
+use Rattle.std.specs.List.{concat}
 use Rattle.language.specs.Limits.{IsValue}
 use Rattle.format.specs.declared.layout.Layout.{Layout}
 use Rattle.format.specs.declared.layout.Row.{Row}
 use Rattle.format.specs.Layout.{bytes2, bytes4, count_in, codes_in, operands_in}
 
--- the two arrays of a layout
+-- the two arrays of a layout, as bytes
 abbrev pub codes_of : Layout → List ℕ
 codes_of l = l.codes.now
 
 abbrev pub operands_of : Layout → List ℕ
-operands_of l = l.operands.now
+operands_of l = concat l.operands.now
 
 -- the bytes are as many as their header says
 pub record Whole (bytes : List ℕ) : Type 0 where
@@ -29,11 +30,11 @@ pub record ValueAt (bytes : List ℕ) (at : ℕ) (v : ℤ) : Type 0 where
   pub value : IsValue v
   pub four : take 4 (drop at bytes) ≡ bytes4 v
 
--- row i of two parallel arrays
-pub record RowAt (codes operands : List ℕ) (i : ℕ) (row : Row) : Type 0 where
-  pub within : i < length codes
-  pub code : row.code ≡ slice_index codes i
-  pub operand : ValueAt operands (4 * i) row.operand
+-- row i of a layout
+pub record RowAt (l : Layout) (i : ℕ) (row : Row) : Type 0 where
+  pub within : i < length (codes_of l)
+  pub code : row.code ≡ slice_index (codes_of l) i
+  pub operand : ValueAt (operands_of l) (4 * i) row.operand
 
-abbrev pub NoRow : List ℕ → List ℕ → ℕ → Type 0
-NoRow codes operands i = (length codes ≤ i) ⊎ (length operands < 4 * i + 4)
+abbrev pub NoRow : Layout → ℕ → Type 0
+NoRow l i = length (codes_of l) ≤ i

@@ -1,7 +1,6 @@
 // The cells of a table.
 ghost use Rattle.std.specs.Prelude.{◌≡◌, MatchOption};
 ghost use Rattle.format.specs.Cells.{NoCell, IsCell, parts, is_formal};
-ghost use Rattle.format.specs.Others.{NoOther, IsOther};
 
 use crate::layout::Row;
 use language::{Function, MAX_ARGUMENTS, MAX_PARTS, NAMES, Variable};
@@ -9,7 +8,7 @@ use language::{Function, MAX_ARGUMENTS, MAX_PARTS, NAMES, Variable};
 // The operand of an APPLY or a CALL is its function times this, plus the number of arguments.
 pub(crate) const CALL_BASE: u16 = MAX_ARGUMENTS + 1;
 
-#[derive(Clone, Copy)]
+#[derive(Clone, Copy, PartialEq, Eq, Debug)]
 pub enum Cell {
     Literal(i32),
     Var(Variable),
@@ -31,17 +30,8 @@ impl Cell {
         if row.code == 0 {
             return Some(Cell::Literal(row.operand));
         }
-        match u16::try_from(row.operand) {
-            Ok(operand) => Cell::other(row.code, operand),
-            Err(_) => None,
-        }
-    }
-
-    // The same of a code other than LITERAL's, whose operand is no negative number.
-    fn other(code: u8, operand: u16) -> Option<Cell>
-        ensures { MatchOption result (NoOther code operand) (IsOther code operand) }
-    {
-        match code {
+        let operand = u16::try_from(row.operand).ok()?;
+        match row.code {
             1 if operand < NAMES as u16 => Some(Cell::Var(operand as u8)),
             2 if operand < NAMES as u16 => Some(Cell::Set(operand as u8)),
             3 if operand == 0 => Some(Cell::If),

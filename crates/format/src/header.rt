@@ -1,36 +1,46 @@
 // The header of a table or an image.
 ghost use Rattle.std.specs.Prelude.{◌≡◌, ◌≤◌, length, MatchOption};
 ghost use Rattle.format.specs.Layout.{kind_byte, header_bytes};
-ghost use Rattle.format.specs.Headers.{most_formals, Headed, HeaderAt};
+ghost use Rattle.format.specs.Headers.{most_formals, KindOf, Headed, HeaderAt};
 
 use language::{MAX_FORMALS, NAMES};
 
-#[derive(Clone, Copy)]
+#[derive(Clone, Copy, PartialEq, Eq, Debug)]
 pub enum Kind {
     Function,
     Variable,
 }
 
-impl Kind {
-    fn from_byte(byte: u8) -> Option<Kind>
-        ensures { MatchOption result (2 ≤ byte) (λ k. kind_byte k ≡ byte) }
-    {
+// A byte that stands for no kind.
+#[derive(Clone, Copy, PartialEq, Eq, Debug)]
+pub struct UnknownKind(pub u8);
+
+impl TryFrom<u8> for Kind {
+    type Error = UnknownKind;
+
+    ghost try_from_gives = { KindOf };
+
+    fn try_from(byte: u8) -> Result<Kind, UnknownKind> {
         match byte {
-            0 => Some(Kind::Function),
-            1 => Some(Kind::Variable),
-            _ => None,
+            0 => Ok(Kind::Function),
+            1 => Ok(Kind::Variable),
+            _ => Err(UnknownKind(byte)),
         }
     }
+}
 
-    fn to_byte(self) -> u8
-        ensures { result ≡ kind_byte self }
-    {
-        match self {
+impl From<Kind> for u8 {
+    ghost from_gives = { λ kind byte. byte ≡ kind_byte kind };
+
+    fn from(kind: Kind) -> u8 {
+        match kind {
             Kind::Function => 0,
             Kind::Variable => 1,
         }
     }
+}
 
+impl Kind {
     fn most_formals(self) -> u8
         ensures { result ≡ most_formals self }
     {
@@ -42,7 +52,7 @@ impl Kind {
 }
 
 // What a header says besides the number of cells or instructions. A table has height 0.
-#[derive(Clone, Copy)]
+#[derive(Clone, Copy, PartialEq, Eq, Debug)]
 pub struct Header {
     pub height: u16,
     pub kind: Kind,
@@ -58,7 +68,7 @@ impl Header {
         let [_, _, low, high, kind, number, formals, 0, ..] = bytes else {
             return None;
         };
-        let kind = Kind::from_byte(*kind)?;
+        let kind = Kind::try_from(*kind).ok()?;
         if *number >= NAMES || *formals > kind.most_formals() {
             return None;
         }
@@ -81,7 +91,7 @@ impl Header {
             high,
             height_low,
             height_high,
-            self.kind.to_byte(),
+            self.kind.into(),
             self.number,
             self.formals,
             0,

@@ -1,7 +1,7 @@
 // An image: the header and the instructions that bytes hold.
-ghost use Rattle.std.specs.Prelude.{◌≡◌, ◌≤◌, length, MatchOption};
-ghost use Rattle.format.specs.Rows.{codes_of, operands_of};
-ghost use Rattle.format.specs.Images.{codes_of_image, operands_of_image, InstrAt, NoInstrAt, AllInstrs, FirstNoInstr, ImageAnswered};
+ghost use Rattle.std.specs.Prelude.{◌≡◌, ◌<◌, ◌≤◌, length, MatchOption};
+ghost use Rattle.language.specs.Limits.{IsName};
+ghost use Rattle.format.specs.Rows.{codes_of};
 
 use crate::header::Header;
 use crate::instr::Instr;
@@ -16,30 +16,32 @@ pub const MAX_HEIGHT: u16 = 2048;
 pub struct Image<'a> {
     pub header: Header,
     instrs: Layout<'a>,
+    ghost number: { IsName header.number },
+    ghost formals: { header.formals < 16 },
+    ghost few: { length (codes_of instrs) ≤ 6144 },
 }
 
 impl<'a> Image<'a> {
+    ghost use Rattle.format.specs.Images.{codes_of_image, InstrIn, NoInstrIn, EachInstr, FirstWrong, ImageAnswered};
+
     // The image that the bytes are, or the first thing that is wrong with them.
     pub fn read(bytes: &'a [u8]) -> Result<Image<'a>, Refusal>
         ensures { ImageAnswered bytes.now result }
     {
-        let Some(instrs) = Layout::cut(bytes) else {
-            return Err(Refusal::Size);
-        };
+        let instrs = Layout::cut(bytes).ok_or(Refusal::Size)?;
         let count = instrs.len();
         if count == 0 || count > MAX_INSTRS {
             return Err(Refusal::Size);
         }
-        let Some(header) = Header::read(bytes) else {
-            return Err(Refusal::Head);
-        };
+        let header = Header::read(bytes).ok_or(Refusal::Head)?;
         if header.height == 0 || header.height > MAX_HEIGHT {
             return Err(Refusal::Head);
         }
-        if let Some(index) = first_wrong(&instrs, header) {
-            return Err(Refusal::Code(index));
+        let image = Image { header, instrs };
+        match image.first_wrong() {
+            Some(index) => Err(Refusal::Code(index)),
+            None => Ok(image),
         }
-        Ok(Image { header, instrs })
     }
 
     pub fn len(&self) -> usize
@@ -50,35 +52,16 @@ impl<'a> Image<'a> {
 
     // The instruction at `i`, or None where no instruction stands there.
     pub fn instr(&self, i: u16) -> Option<Instr>
-        ensures { MatchOption result (NoInstrAt (codes_of_image self.now) (operands_of_image self.now) self.now.header i) (InstrAt (codes_of_image self.now) (operands_of_image self.now) self.now.header i) }
+        ensures { MatchOption result (NoInstrIn self.now i) (InstrIn self.now i) }
     {
-        instr_at(&self.instrs, self.header, i)
+        let row = self.instrs.row(i)?;
+        Instr::read(row, self.header, self.len() as u16)
     }
-}
 
-// The index of the first row that is no instruction.
-fn first_wrong(instrs: &Layout, header: Header) -> Option<u16>
-    requires { length (codes_of instrs.now) ≤ 6144 }
-    ensures { MatchOption result (AllInstrs (codes_of instrs.now) (operands_of instrs.now) header) (FirstNoInstr (codes_of instrs.now) (operands_of instrs.now) header) }
-{
-    let count = instrs.len() as u16;
-    for i in 0..count {
-        let Some(_) = instr_at(instrs, header, i) else {
-            return Some(i);
-        };
+    // The index of the first row that is no instruction.
+    fn first_wrong(&self) -> Option<u16>
+        ensures { MatchOption result (EachInstr self.now) (FirstWrong self.now) }
+    {
+        (0..self.len() as u16).find(|i| self.instr(*i).is_none())
     }
-    None
-}
-
-fn instr_at(instrs: &Layout, header: Header, i: u16) -> Option<Instr>
-    ensures { MatchOption result (NoInstrAt (codes_of instrs.now) (operands_of instrs.now) header i) (InstrAt (codes_of instrs.now) (operands_of instrs.now) header i) }
-{
-    let count = instrs.len();
-    if count > MAX_INSTRS {
-        return None;
-    }
-    let Some(row) = instrs.row(i) else {
-        return None;
-    };
-    Instr::read(row, header, count as u16)
 }

@@ -1,14 +1,13 @@
 // The instructions of an image.
 ghost use Rattle.std.specs.Prelude.{◌≡◌, MatchOption};
 ghost use Rattle.format.specs.Instrs.{name, code, operand, NoInstr, IsInstr};
-ghost use Rattle.format.specs.Others.{NoOtherInstr, IsOtherInstr};
 
 use crate::cell::CALL_BASE;
 use crate::header::{Header, Kind};
 use crate::layout::Row;
 use language::{Function, NAMES, Variable};
 
-#[derive(Clone, Copy)]
+#[derive(Clone, Copy, PartialEq, Eq, Debug)]
 pub enum Instr {
     Push(i32),
     // a formal, by its index from 0
@@ -36,17 +35,8 @@ impl Instr {
         if row.code == 0 {
             return Some(Instr::Push(row.operand));
         }
-        match u16::try_from(row.operand) {
-            Ok(operand) => Instr::other(row.code, operand, header, count),
-            Err(_) => None,
-        }
-    }
-
-    // The same of a code other than PUSH's, whose operand is no negative number.
-    fn other(code: u8, operand: u16, header: Header, count: u16) -> Option<Instr>
-        ensures { MatchOption result (NoOtherInstr header count code operand) (IsOtherInstr header count code operand) }
-    {
-        match code {
+        let operand = u16::try_from(row.operand).ok()?;
+        match row.code {
             1 if operand < header.formals as u16 => Some(Instr::LoadF(operand as u8)),
             2 if operand < NAMES as u16 => Some(Instr::LoadG(operand as u8)),
             3 if operand < header.formals as u16 => Some(Instr::StoreF(operand as u8)),
@@ -59,8 +49,8 @@ impl Instr {
                 (operand / CALL_BASE) as u8,
                 (operand % CALL_BASE) as u8,
             )),
-            10 if operand == 0 && matches!(header.kind, Kind::Function) => Some(Instr::Ret),
-            11 if operand == header.number as u16 && matches!(header.kind, Kind::Variable) => {
+            10 if operand == 0 && header.kind == Kind::Function => Some(Instr::Ret),
+            11 if operand == header.number as u16 && header.kind == Kind::Variable => {
                 Some(Instr::Bind(header.number))
             }
             _ => None,

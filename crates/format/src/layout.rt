@@ -1,6 +1,6 @@
 // The bytes of a table or an image, cut into their two arrays.
-ghost use Rattle.std.specs.Prelude.{◌≡◌, ◌+◌, ◌≤◌, length, MatchOption};
-ghost use Rattle.format.specs.Rows.{codes_of, operands_of, Whole, Cut, ValueAt, RowAt, NoRow};
+ghost use Rattle.std.specs.Prelude.{◌≡◌, ◌^◌, ◌<◌, length, MatchOption};
+ghost use Rattle.format.specs.Layout.{Parallel};
 
 // Bytes before the codes.
 pub const HEADER_LEN: usize = 8;
@@ -11,32 +11,33 @@ pub const ROW_LEN: usize = 5;
 #[derive(Clone, Copy)]
 pub struct Layout<'a> {
     codes: &'a [u8],
-    operands: &'a [u8],
+    operands: &'a [[u8; 4]],
+    ghost few: { length codes.now < 2 ^ 16 },
+    ghost parallel: { Parallel codes.now operands.now },
 }
 
 // A code with its operand.
-#[derive(Clone, Copy)]
+#[derive(Clone, Copy, PartialEq, Eq, Debug)]
 pub struct Row {
     pub code: u8,
     pub operand: i32,
 }
 
 impl<'a> Layout<'a> {
+    ghost use Rattle.format.specs.Rows.{codes_of, operands_of, Whole, Cut, RowAt, NoRow};
+
     // None where the bytes are not as many as their header says.
     pub fn cut(bytes: &'a [u8]) -> Option<Layout<'a>>
         ensures { MatchOption result (Whole bytes.now → ⊥) (λ l. Cut bytes.now (codes_of l) (operands_of l)) }
     {
-        if bytes.len() < 8 {
+        let (header, rows) = bytes.split_at_checked(HEADER_LEN)?;
+        let count = u16::from_le_bytes([header[0], header[1]]) as usize;
+        if rows.len() != ROW_LEN * count {
             return None;
         }
-        let count = u16::from_le_bytes([bytes[0], bytes[1]]) as usize;
-        if bytes.len() != 8 + 5 * count {
-            return None;
-        }
-        Some(Layout {
-            codes: &bytes[8..8 + count],
-            operands: &bytes[8 + count..],
-        })
+        let (codes, operands) = rows.split_at(count);
+        let (operands, _) = operands.as_chunks();
+        Some(Layout { codes, operands })
     }
 
     pub fn len(&self) -> usize
@@ -45,24 +46,13 @@ impl<'a> Layout<'a> {
         self.codes.len()
     }
 
-    // The row at `i`, or None past the end of either array.
+    // The row at `i`, or None past the end.
     pub fn row(&self, i: u16) -> Option<Row>
-        ensures { MatchOption result (NoRow (codes_of self.now) (operands_of self.now) i) (RowAt (codes_of self.now) (operands_of self.now) i) }
+        ensures { MatchOption result (NoRow self.now i) (RowAt self.now i) }
     {
-        let i = i as usize;
-        if i >= self.len() || 4 * i + 4 > self.operands.len() {
-            return None;
-        }
-        Some(Row {
-            code: self.codes[i],
-            operand: read_i32(self.operands, 4 * i),
-        })
+        let code = *self.codes.get(i as usize)?;
+        let [a, b, c, d] = *self.operands.get(i as usize)?;
+        let operand = i32::from_le_bytes([a, b, c, d]);
+        Some(Row { code, operand })
     }
-}
-
-fn read_i32(bytes: &[u8], at: usize) -> i32
-    requires { at + 4 ≤ length bytes.now }
-    ensures { ValueAt bytes.now at result }
-{
-    i32::from_le_bytes([bytes[at], bytes[at + 1], bytes[at + 2], bytes[at + 3]])
 }

@@ -1,6 +1,9 @@
 // Why an input or a call is refused.
-ghost use Rattle.std.specs.Prelude.{◌≡◌};
-ghost use Rattle.format.specs.Refusals.{told};
+ghost use Rattle.std.specs.Prelude.{◌≡◌, Some};
+ghost use Rattle.format.specs.Refusals.{told, refusal_text};
+
+use std::error::Error;
+use std::fmt;
 
 // `Cell` and `Code` carry the index of the first wrong cell or instruction.
 #[derive(Clone, Copy, PartialEq, Eq, Debug)]
@@ -73,3 +76,18 @@ impl Refusal {
         }
     }
 }
+
+impl fmt::Display for Refusal {
+    ghost output = { λ refusal. Some (refusal_text refusal) };
+
+    fn fmt<W: fmt::Write>(&self, f: &mut fmt::Formatter<W>) -> fmt::Result {
+        let number = self.number();
+        let word = self.word();
+        match self.index() {
+            Some(index) => write!(f, "{number} {word} {index}"),
+            None => write!(f, "{number} {word}"),
+        }
+    }
+}
+
+impl Error for Refusal {}

@@ -1,35 +1,51 @@
-use Rattle.std.proofs.Common.{refl, arith}
-use Rattle.format.specs.Images.{SIZE, HEAD}
-use Rattle.format.proofs.ImageTests.{some_sized, sized_some, some_head, refuse_code, image_in}
+use Rattle.std.proofs.Common.{◌≡◌, List, ℕ, Err, Result, refl, sym, subst, arith, rules}
+use Rattle.format.specs.declared.image.Image.{Image}
+use Rattle.format.specs.declared.refusal.Refusal.{Refusal}
+use Rattle.format.specs.declared.refusal.Refusal.TheVariants.{Size, Head}
+use Rattle.format.specs.Images.{SIZE, HEAD, ImageRead, ImageAnswered}
+use Rattle.format.proofs.ImageTests.{some_sized, sized_some, some_head, formals_few, refuse_code, image_in}
 use Rattle.format.proofs.OnlyImage.{answered}
 use Rattle.format.proofs.image.Image.read.Goals as goal
 
-pub returns-in_default : goal.returns-in_default
-returns-in_default c = answered _ _ (SIZE (λ s. c.in_default.ensures s.whole))
+refused : (bytes : List ℕ) (e : Refusal) (r : Result Image Refusal) → r ≡ Err e → ImageRead bytes (Err e) → ImageAnswered bytes r
+refused bytes e r is read = subst (ImageAnswered bytes) (sym is) (answered bytes (Err e) read)
+
+pub returns-in_err-instrs : goal.returns-in_err-instrs
+returns-in_err-instrs c =
+    let none = rw c.in_err-instrs.ensures.ok_part at c.cut.ensures in
+    refused _ Size _ (search rules) (SIZE (λ s. none s.whole))
 
 pub returns-then-count-eq0 : goal.returns-then-count-eq0
 returns-then-count-eq0 c =
-    answered _ _ (SIZE (λ s. let b = sized_some _ _ _ c.in-Some.ensures s in omega (arith, c.then-count-eq0.either)))
+    let cut = rw c.in_ok-instrs.ensures.ok_part at c.cut.ensures in
+    answered _ _ (SIZE (λ s. let b = sized_some _ _ _ cut s in omega (arith, c.then-count-eq0.either)))
 
-pub returns-in_default-read : goal.returns-in_default-read
-returns-in_default-read c =
-    let cut = c.in-Some.ensures in
-    answered _ _ (HEAD (some_sized _ _ _ cut (omega arith) (omega arith)) (λ h. c.in_default-read.ensures cut.whole.headed h.headed))
+pub returns-in_err-header : goal.returns-in_err-header
+returns-in_err-header c =
+    let cut = rw c.in_ok-instrs.ensures.ok_part at c.cut.ensures in
+    let none = rw c.in_err-header.ensures.ok_part at c.read.ensures in
+    refused _ Head _ (search rules) (HEAD (some_sized _ _ _ cut (omega arith) (omega arith)) (λ h. none cut.whole.headed h.headed))
 
 pub returns-then-header-eq0 : goal.returns-then-header-eq0
 returns-then-header-eq0 c =
-    let cut = c.in-Some.ensures in
-    let at = c.in-Some-read.ensures in
+    let cut = rw c.in_ok-instrs.ensures.ok_part at c.cut.ensures in
+    let at = rw c.in_ok-header.ensures.ok_part at c.read.ensures in
     answered _ _ (HEAD (some_sized _ _ _ cut (omega arith) (omega arith)) (λ h. omega (arith, at.height, h.some, h.low, c.then-header-eq0.either)))
 
-pub returns-in-Some-first_wrong : goal.returns-in-Some-first_wrong
-returns-in-Some-first_wrong c =
-    let cut = c.in-Some.ensures in
-    let at = c.in-Some-read.ensures in
-    answered _ _ (refuse_code _ _ _ cut _ at (some_sized _ _ _ cut (omega arith) (omega arith)) (some_head _ _ _ cut _ at (omega arith) (omega arith)) c.in-Some-first_wrong.ensures)
+pub invariant_of-image : goal.invariant_of-image
+invariant_of-image c =
+    let cut = rw c.in_ok-instrs.ensures.ok_part at c.cut.ensures in
+    let at = rw c.in_ok-header.ensures.ok_part at c.read.ensures in
+    record { number = rw at.number at.headed.number; formals = formals_few _ _ _ cut _ at; few = omega arith }
 
-pub returns : goal.returns
-returns c =
-    let cut = c.in-Some.ensures in
-    let at = c.in-Some-read.ensures in
-    answered _ _ (image_in _ _ _ cut _ at (some_sized _ _ _ cut (omega arith) (omega arith)) (some_head _ _ _ cut _ at (omega arith) (omega arith)) _ refl refl refl c.in_default-first_wrong.ensures)
+pub returns-in-Some : goal.returns-in-Some
+returns-in-Some c =
+    let cut = rw c.in_ok-instrs.ensures.ok_part at c.cut.ensures in
+    let at = rw c.in_ok-header.ensures.ok_part at c.read.ensures in
+    answered _ _ (refuse_code _ _ _ cut _ at (some_sized _ _ _ cut (omega arith) (omega arith)) (some_head _ _ _ cut _ at (omega arith) (omega arith)) c.in-Some.ensures)
+
+pub returns-in-None : goal.returns-in-None
+returns-in-None c =
+    let cut = rw c.in_ok-instrs.ensures.ok_part at c.cut.ensures in
+    let at = rw c.in_ok-header.ensures.ok_part at c.read.ensures in
+    answered _ _ (image_in _ _ _ cut _ at (some_sized _ _ _ cut (omega arith) (omega arith)) (some_head _ _ _ cut _ at (omega arith) (omega arith)) _ refl refl refl c.in-None.ensures)

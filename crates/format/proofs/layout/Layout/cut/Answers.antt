@@ -1,20 +1,19 @@
-use Rattle.std.proofs.Common.{◌≡◌, ◌+◌, ◌-◌, length, take, drop, sym, ap, ◌∙◌, arith, length-drop, length-take, rules}
-use Rattle.std.proofs.lemmas.List.{take_all}
-use Rattle.format.specs.Layout.{bytes2, count_in}
-use Rattle.format.proofs.Bytes.{take_two, bytes2_of}
+use Rattle.std.proofs.Common.{arith}
+use Rattle.format.proofs.Chunks.{small_drop}
+use Rattle.format.proofs.Cutting.{count_is, each_four, concat_is, cut_of}
 use Rattle.format.proofs.layout.Layout.cut.Goals as goal
+
+pub invariant_of-result : goal.invariant_of-result
+invariant_of-result c =
+    record {
+      few = omega arith;
+      parallel = record {
+        as_many = omega arith;
+        each = each_four _ _ c.if-rows-count.false _ c.split_at.ensures.back _ c.as_chunks.ensures.front (λ i. rw (c.in_ok-header.ensures.cases.2) (small_drop 8 c.args.bytes.now (λ j. (c.type_inv.bytes j).fits) i));
+      };
+    }
 
 pub returns : goal.returns
 returns c =
-    let bytes = c.args.bytes.now in
-    let n = c.from_le_bytes-count.result in
-    let is : n ≡ count_in bytes = c.from_le_bytes-count.ensures in
-    let front : 8 + n - 8 ≡ count_in bytes = omega (arith, is) in
-    let size : length (take (8 + n - 8) (drop 8 bytes)) ≡ count_in bytes = length-take (8 + n - 8) (drop 8 bytes) ∙ omega (arith, front, is, length-drop 8 bytes) in
-    let rest : length (drop (8 + n) bytes) ≡ length bytes - (8 + n) = length-drop (8 + n) bytes in
-    record {
-      count = take_two bytes 0 (omega arith) ∙ sym (bytes2_of _ _ (search rules) (search rules)) ∙ ap bytes2 (sym size);
-      whole = record { headed = omega arith; long = omega (arith, is) };
-      codes_are = ap (λ k. take k (drop 8 bytes)) front;
-      operands_are = take_all _ _ (omega (arith, rest)) ∙ ap (λ k. drop (8 + k) bytes) is;
-    }
+    let split = c.in_ok-header.ensures.cases in
+    cut_of _ _ _ c.as_chunks.result.0.now _ split.0 (c.type_inv.bytes 0).fits (c.type_inv.bytes 1).fits split.2 (count_is _ _ _ split.1 c.from_le_bytes-count.ensures) c.if-rows-count.false c.split_at.ensures.front (concat_is _ _ c.if-rows-count.false _ c.split_at.ensures.back _ c.as_chunks.ensures.front (λ i. rw (c.in_ok-header.ensures.cases.2) (small_drop 8 c.args.bytes.now (λ j. (c.type_inv.bytes j).fits) i)))
