@@ -1,5 +1,6 @@
 -- Where cells stand in two arrays, the arrays are their codes and operands, and the other way round.
-use Rattle.std.proofs.Common.{◌≡◌, ℕ, zero, suc, ◌+◌, ◌*◌, ◌<◌, ◌≤◌, Bool, true, false, ltb, List, [], ◌∷◌, ◌++◌, map, length, get_or, take, drop, sym, refl, ap, ◌∙◌, subst, arith, length-append, length-drop, take-append-drop, ltb-false, ltb-true}
+use Rattle.std.proofs.Common.{◌≡◌, ℕ, zero, suc, ◌+◌, ◌*◌, ◌<◌, ◌≤◌, max, Bool, true, false, ltb, List, [], ◌∷◌, ◌++◌, map, length, None, Some, Option, MatchOption, get_or, take, drop, sym, refl, ap, ◌∙◌, subst, arith, length-append, length-drop, take-append-drop, ltb-false, ltb-true}
+use native.Mathlib.Decide.{dec_lt}
 use Rattle.std.proofs.lemmas.List.{drop_more, drop_all, drop-drop, length-map}
 use Rattle.language.specs.Tree.{Exp, LITERAL, VAR, SET, IF, WHILE, BEGIN, APPLY, Exps, nil, cons}
 use Rattle.language.specs.Limits.{InRange, AllInRange, AreNames}
@@ -7,7 +8,7 @@ use Rattle.format.specs.declared.cell.Cell.{Cell}
 use Rattle.format.specs.declared.cell.Cell.TheVariants.{If, Formal}
 use Rattle.format.specs.Layout.{operand_bytes}
 use Rattle.format.specs.Cells.{code, operand, Valid, encode, encodes, is_formal}
-use Rattle.translator.specs.Tables.{CellAt, AllRight}
+use Rattle.translator.specs.Tables.{CellAt, Right, AllRight, FirstWrong, wrong, missing}
 use Rattle.translator.specs.Reading.{CellsAt}
 use Rattle.translator.proofs.Places.{cells_nth}
 
@@ -154,3 +155,18 @@ module _ (codes operands : List ℕ) where
           go : (t : Bool) → ltb k (length xs) ≡ t → is_formal (get_or (map Formal xs ++ encode e) k If) ≡ ltb k (length xs)
           go true is = formal_first xs (encode e) k If (ltb-true k (length xs) is) ∙ sym is
           go false is = none_after xs (encode e) k If (no_formals e) (ltb-false k (length xs) is) h ∙ sym is
+
+-- what looking at each place tells, up to the end of the cells or of the formals
+module _ (codes operands : List ℕ) (n m : ℕ) (upto : m ≡ max (length codes) n) where
+  within_of : {i : ℕ} → ((k : ℕ) → k < i → k < length codes) → i ≤ length codes
+  within_of {i} each =
+      elim (dec_lt (length codes) i) [ yes past ↦ omega (arith, each (length codes) past) | no within ↦ omega (arith, within) ]
+
+  pub first_wrong : (r : Option ℕ) → MatchOption r ((k : ℕ) → 0 ≤ k → k < m → Right codes operands n k) (λ i. (0 ≤ i) × (i < m) × (Right codes operands n i → ⊥) × ((k : ℕ) → 0 ≤ k → k < i → Right codes operands n k)) → MatchOption r (AllRight codes operands n) (FirstWrong codes operands n)
+  first_wrong None all = record { each = λ k lt. all k (omega arith) (omega (arith, upto, lt)); enough = within_of (λ k lt. (all k (omega arith) (omega (arith, upto, lt))).here.within) }
+  first_wrong (Some i) found =
+      let low : i ≤ length codes = within_of (λ k lt. (found.3 k (omega arith) lt).here.within) in
+      elim (dec_lt i (length codes)) [
+        | yes within ↦ wrong within (λ k lt. found.3 k (omega arith) lt) found.2
+        | no past ↦ missing (omega (arith, past, low)) (λ k lt. found.3 k (omega arith) lt) (omega (arith, upto, past, found.1))
+      ]

@@ -17,7 +17,7 @@ use Rattle.format.proofs.Bytes.{take_two}
 use Rattle.translator.specs.declared.expression.Extent.{Extent}
 use Rattle.translator.specs.Tables.{CellAt, Right, AllRight, IsTable}
 use Rattle.translator.specs.Weight.{weight}
-use Rattle.translator.specs.Reading.{Parallel, CellsAt, ExpAt}
+use Rattle.translator.specs.Reading.{CellsAt, ExpAt}
 use Rattle.translator.proofs.Trees.{encode_size}
 use Rattle.translator.proofs.Places.{cells_append}
 use Rattle.translator.proofs.Arrays.{valid_front, valid_back, valid_ranged, valid_names, cells_valid, codes_of_cells, operands_of_cells}
@@ -124,7 +124,7 @@ pub record Decoded (t : List ℕ) (h : Header) (x : Extent) : Type 0 where
   pub long : x.count ≡ weight (body definition)
   pub high : x.height ≡ height (body definition)
 
-module _ (t codes operands : List ℕ) (h : Header) (x : Extent) (cut : Cut t codes operands) (par : Parallel codes operands) (at : HeaderAt t h) (flat : h.height ≡ 0) (exp : ExpAt codes operands h.formals x) (low : length codes ≤ x.«end») (high : x.«end» ≤ length codes) where
+module _ (t codes operands : List ℕ) (h : Header) (x : Extent) (cut : Cut t codes operands) (few : length codes ≤ 2048) (at : HeaderAt t h) (flat : h.height ≡ 0) (exp : ExpAt codes operands h.formals x) (low : length codes ≤ x.«end») (high : x.«end» ≤ length codes) where
   join : (ns : Names codes operands 0 h.formals) (d : Definition) → Parts h.kind h.number ns.names exp.e d → Decoded t h x
   join ns d p =
       let xs = ns.names in
@@ -144,7 +144,7 @@ module _ (t codes operands : List ℕ) (h : Header) (x : Extent) (cut : Cut t co
         few = omega (arith, many, at.formals, fewer at.headed.kind, at.headed.formals);
         named = subst AreNames (sym p.formals_are) (valid_names xs (valid_front (map Formal xs) (encode e) valid));
         ranged = subst InRange (sym p.body_is) (valid_ranged e (valid_back (map Formal xs) (encode e) valid));
-        sized = omega (arith, many, size_is, encode_size e, exp.past, par.few);
+        sized = omega (arith, many, size_is, encode_size e, exp.past, few);
       } in
       record {
         definition = d;

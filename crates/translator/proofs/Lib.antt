@@ -6,3 +6,4 @@ pub mod Facts
 pub mod Decoded
 pub mod Verdicts
 pub mod Only
+pub mod Repeats

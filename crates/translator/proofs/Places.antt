@@ -1,15 +1,12 @@
 -- A place holds one cell at most, and the code and operand there tell which.
-use Rattle.std.proofs.Common.{◌≡◌, ℕ, zero, suc, ◌+◌, ◌*◌, ◌/◌, ◌%◌, ◌<◌, ◌≤◌, cond, eqb, List, [], ◌∷◌, ◌++◌, map, length, get_or, ℤ, pos, negsuc, sym, refl, ap, ◌∙◌, subst, inl, inr, append-nil, arith}
+use Rattle.std.proofs.Common.{◌≡◌, ℕ, zero, suc, ◌+◌, ◌*◌, ◌/◌, ◌%◌, ◌<◌, ◌≤◌, cond, eqb, List, [], ◌∷◌, ◌++◌, map, length, get_or, ℤ, pos, negsuc, sym, refl, ◌∙◌, subst, append-nil, arith}
 use Rattle.language.specs.Limits.{IsValue}
 use Rattle.format.specs.declared.cell.Cell.{Cell}
 use Rattle.format.specs.declared.cell.Cell.TheVariants.{Literal, Var, Set, If, While, Begin, Apply, Formal}
-use Rattle.format.specs.declared.layout.Row.{Row}
-use Rattle.format.specs.Layout.{bytes4}
-use Rattle.format.specs.Rows.{RowAt, NoRow}
-use Rattle.format.specs.Cells.{code, operand, Valid, IsCell, NoCell}
+use Rattle.format.specs.Cells.{code, operand, Valid}
 use Rattle.format.proofs.Bytes.{bytes4_injective}
 use Rattle.translator.specs.Tables.{CellAt}
-use Rattle.translator.specs.Reading.{Parallel, CellsAt}
+use Rattle.translator.specs.Reading.{CellsAt}
 
 natural : ℤ → ℕ
 natural (pos n) = n
@@ -50,23 +47,7 @@ module _ {codes operands : List ℕ} {i : ℕ} where
       let b : code c ≡ code d = sym x.code_is ∙ y.code_is in
       sym (cell_back c x.valid) ∙ (λ j. cell_from (b j) (o j)) ∙ cell_back d y.valid
 
-  -- a row that was read as a cell, and one that is none
-  pub cell_here : {row : Row} {c : Cell} → RowAt codes operands i row → IsCell row.code row.operand c → CellAt codes operands i c
-  cell_here r x = record { within = r.within; valid = x.valid; code_is = sym r.code ∙ x.code_is; operand_is = r.operand.four ∙ ap bytes4 x.operand_is }
-
-  pub no_row_here : {c : Cell} → Parallel codes operands → NoRow codes operands i → CellAt codes operands i c → ⊥
-  no_row_here p (inl past) x = omega (arith, x.within)
-  no_row_here p (inr short) x = omega (arith, x.within, p.long)
-
-  pub no_cell_here : {row : Row} → RowAt codes operands i row → NoCell row.code row.operand → (c : Cell) → CellAt codes operands i c → ⊥
-  no_cell_here {row} r none c x =
-      none c record {
-        valid = x.valid;
-        code_is = r.code ∙ x.code_is;
-        operand_is = bytes4_injective _ _ r.operand.value (operand_value c x.valid) (sym r.operand.four ∙ x.operand_is);
-      }
-
--- what is cells-of-arrays from one place on is the longer of the two with the other as its beginning
+-- of two lists of cells from one place on, one is the beginning of the other
 pub record Meet (cs ds : List Cell) : Type 0 where
   pub left : List Cell
   pub right : List Cell

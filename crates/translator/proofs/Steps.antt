@@ -3,14 +3,12 @@ use Rattle.std.proofs.Common.{◌≡◌, ℕ, ◌+◌, ◌-◌, ◌*◌, ◌<◌
 use Rattle.language.specs.Tree.{Exp, nil, cons, count}
 use Rattle.format.specs.declared.cell.Cell.{Cell}
 use Rattle.format.specs.declared.cell.Cell.TheVariants.{Literal, Var, Set, If, While, Begin, Apply, Formal}
-use Rattle.format.specs.declared.layout.Row.{Row}
-use Rattle.format.specs.Rows.{RowAt, NoRow}
-use Rattle.format.specs.Cells.{encode, encodes, parts, NoCell}
+use Rattle.format.specs.Cells.{encode, encodes, parts}
 use Rattle.translator.specs.declared.expression.Extent.{Extent}
 use Rattle.translator.specs.Tables.{CellAt}
-use Rattle.translator.specs.Reading.{Parallel, CellsAt, ExpAt, NoExp, ExpsAt, NoExps, raised, lift_of, own}
+use Rattle.translator.specs.Reading.{CellsAt, ExpAt, NoExp, ExpsAt, NoExps, raised, lift_of, own}
 use Rattle.translator.proofs.Trees.{head_of, parts_in, split, make, unique, encode_size, encodes_size, depth_bound, depths_bound, size_some, between_bound, weight_bound, weights_bound, height_bound, raised_bound}
-use Rattle.translator.proofs.Places.{one_cell, no_row_here, no_cell_here, cells_append, cells_front, cells_back, cells_within, meet}
+use Rattle.translator.proofs.Places.{one_cell, cells_append, cells_front, cells_back, cells_within, meet}
 
 module _ (codes operands : List ℕ) where
   -- the first cell of an expression, and its parts after it
@@ -20,11 +18,8 @@ module _ (codes operands : List ℕ) where
   pub one_exp : (at : ℕ) (e f : Exp) → CellsAt codes operands at (encode e) → CellsAt codes operands at (encode f) → e ≡ f
   one_exp at e f x y = let m = meet codes operands at (encode e) (encode f) x y in unique e f _ _ m.joined
 
-  pub no_row : (at : ℕ) → Parallel codes operands → NoRow codes operands at → NoExp codes operands at
-  no_row at p none e x = no_row_here p none (first e x).0
-
-  pub no_cell : (at : ℕ) (row : Row) → RowAt codes operands at row → NoCell row.code row.operand → NoExp codes operands at
-  no_cell at row r none e x = no_cell_here r none (head_of e) (first e x).0
+  pub no_cell : (at : ℕ) → ((c : Cell) → CellAt codes operands at c → ⊥) → NoExp codes operands at
+  no_cell at none e x = none (head_of e) (first e x).0
 
   module _ (at : ℕ) (c : Cell) (here : CellAt codes operands at c) where
     head_is : (e : Exp) → CellsAt codes operands at (encode e) → parts c ≡ Some (count (parts_in e))

@@ -10,14 +10,15 @@ use Rattle.format.specs.declared.refusal.Refusal.TheVariants.{Size, Head, Cell a
 use Rattle.format.specs.Refusals.{told}
 use Rattle.format.specs.Layout.{bytes4, codes_in, operands_in}
 use Rattle.format.specs.Headers.{HeaderAt}
-use Rattle.format.specs.Rows.{codes_of, operands_of, Cut}
+use Rattle.format.specs.Rows.{Cut}
 use Rattle.format.specs.Cells.{encode}
 use Rattle.format.proofs.Bytes.{bytes4_injective}
 use Rattle.translator.specs.declared.expression.Extent.{Extent}
 use Rattle.translator.specs.declared.table.Table.{Table}
 use Rattle.translator.specs.Tables.{Sized, TableHead, formals_in, CellAt, AllRight, FirstWrong, wrong, missing, IsTable}
+use Rattle.translator.specs.InCells.{cell_codes, cell_operands}
 use Rattle.translator.specs.Verdict.{Passed, Refused, SIZE, HEAD, CELL, SHAPE, TWICE, NEST, NoTable, Accepted}
-use Rattle.translator.specs.Reading.{Parallel, CellsAt, ExpAt, NoExp, Repeated, NoneRepeated}
+use Rattle.translator.specs.Reading.{CellsAt, ExpAt, NoExp, Repeated, NoneRepeated}
 use Rattle.translator.proofs.Places.{operand_value, cells_front, cells_back, formals_nth}
 use Rattle.translator.proofs.Steps.{one_exp}
 use Rattle.translator.proofs.Facts.{is_table, facts, one_definition}
@@ -42,9 +43,6 @@ module _ (t codes operands : List ℕ) (cut : Cut t codes operands) where
 
   pub sized_some : Sized t → (0 < length codes) × (length codes ≤ 2048)
   sized_some z = let s = sizes t codes operands cut in (omega (arith, s.0, z.some), omega (arith, s.0, z.few))
-
-  pub parallel : length codes ≤ 2048 → Parallel codes operands
-  parallel few = let s = sizes t codes operands cut in record { few = few; long = omega (arith, s.0, s.1) }
 
   module _ (h : Header) (at : HeaderAt t h) where
     all_in : AllRight codes operands h.formals → AllRight (codes_in t) (operands_in t) (formals_in t)
@@ -124,7 +122,7 @@ module _ (t codes operands : List ℕ) (cut : Cut t codes operands) where
           let never : Shallow m.definition → ⊥ = λ s. omega (arith, m.deep) in
           (NEST (passes m.table) m.table (distinct_from m.table none) never, λ d w is. never (subst Shallow (only d (is_table w is)) w.shallow))
 
-      pub accepted : (r : Table) → r.header ≡ h → codes_of r.cells ≡ codes → operands_of r.cells ≡ operands → r.count ≡ x.count + 1 → r.height ≡ x.height → NoneRepeated operands h.formals → x.depth ≤ 200 → Accepted t r
+      pub accepted : (r : Table) → r.header ≡ h → cell_codes r.cells ≡ codes → cell_operands r.cells ≡ operands → r.count ≡ x.count + 1 → r.height ≡ x.height → NoneRepeated operands h.formals → x.depth ≤ 200 → Accepted t r
       accepted r same same_codes same_operands long high none shallow =
           record {
             definition = m.definition;

@@ -1,5 +1,5 @@
 -- What the parts of the check answer.
-use Rattle.std.specs.Prelude.{◌≡◌, ℕ, zero, suc, ◌+◌, ◌*◌, ◌<◌, ◌≤◌, max, List, [], ◌∷◌, length, take, drop}
+use Rattle.std.specs.Prelude.{◌≡◌, ℕ, zero, suc, ◌+◌, ◌*◌, ◌<◌, max, List, [], ◌∷◌, length, take, drop}
 use Rattle.language.specs.Tree.{Exp, Exps, nil, cons, count, depth, depths}
 use Rattle.language.specs.Height.{height}
 use Rattle.format.specs.declared.cell.Cell.{Cell}
@@ -8,11 +8,6 @@ use Rattle.format.specs.Cells.{encode, encodes}
 use Rattle.translator.specs.declared.expression.Extent.{Extent}
 use Rattle.translator.specs.Tables.{CellAt}
 use Rattle.translator.specs.Weight.{weight, weights}
-
--- two arrays of a table
-pub record Parallel (codes operands : List ℕ) : Type 0 where
-  pub few : length codes ≤ 2048
-  pub long : length operands ≡ 4 * length codes
 
 -- these cells stand at `at` and after it
 abbrev pub CellsAt : List ℕ → List ℕ → ℕ → List Cell → Type 0

@@ -8,10 +8,10 @@ use Rattle.format.specs.declared.refusal.Refusal.{Refusal}
 use Rattle.format.specs.declared.refusal.Refusal.TheVariants.{Size, Head, Cell, Shape, Twice, Nest}
 use Rattle.format.specs.Refusals.{Told, told}
 use Rattle.format.specs.Layout.{codes_in, operands_in}
-use Rattle.format.specs.Rows.{codes_of, operands_of}
 use Rattle.format.specs.Cells.{header_of, table_of}
 use Rattle.translator.specs.declared.table.Table.{Table}
 use Rattle.translator.specs.Weight.{weight}
+use Rattle.translator.specs.InCells.{cell_codes, cell_operands}
 use Rattle.translator.specs.Tables.{Sized, TableHead, formals_in, AllRight, FirstWrong, IsTable}
 
 -- the tests of SIZE, HEAD and CELL are passed
@@ -36,8 +36,8 @@ pub record Accepted (t : List ℕ) (r : Table) : Type 0 where
   pub is : t ≡ table_of definition
   pub only : (d : Definition) → IsTable t d → d ≡ definition
   pub header : r.header ≡ header_of definition
-  pub codes : codes_of r.cells ≡ codes_in t
-  pub operands : operands_of r.cells ≡ operands_in t
+  pub codes : cell_codes r.cells ≡ codes_in t
+  pub operands : cell_operands r.cells ≡ operands_in t
   pub counted : r.count ≡ weight (body definition) + 1
   pub high : r.height ≡ height (body definition)
 

@@ -5,4 +5,5 @@ mod cells;
 mod expression;
 mod table;
 
+pub use cells::Cells;
 pub use table::{Table, accept};

@@ -1,18 +1,16 @@
 // The check of a table.
 ghost use Rattle.translator.specs.Verdict.{Answered};
 
-use crate::cells::{first_wrong, has_repeated};
-use crate::expression::read_expression;
+use crate::cells::Cells;
 use format::header::Header;
-use format::layout::Layout;
 use format::refusal::Refusal;
-use language::{MAX_CELLS, MAX_DEPTH};
+use language::MAX_DEPTH;
 
 // An accepted table.
 #[derive(Clone, Copy)]
 pub struct Table<'a> {
     pub header: Header,
-    pub cells: Layout<'a>,
+    pub cells: Cells<'a>,
     // how many instructions its image has
     pub count: u16,
     // the height of its expression
@@ -23,29 +21,21 @@ pub struct Table<'a> {
 pub fn accept(table: &[u8]) -> Result<Table<'_>, Refusal>
     ensures { Answered table.now result }
 {
-    let Some(cells) = Layout::cut(table) else {
-        return Err(Refusal::Size);
-    };
-    let count = cells.len();
-    if count == 0 || count > MAX_CELLS {
-        return Err(Refusal::Size);
-    }
-    let Some(header) = Header::read(table) else {
-        return Err(Refusal::Head);
-    };
+    let cells = Cells::cut(table).ok_or(Refusal::Size)?;
+    let header = Header::read(table).ok_or(Refusal::Head)?;
     if header.height != 0 {
         return Err(Refusal::Head);
     }
-    if let Some(index) = first_wrong(&cells, header.formals) {
+    if let Some(index) = cells.first_wrong(header.formals) {
         return Err(Refusal::Cell(index));
     }
-    let Some(body) = read_expression(&cells, header.formals as u16) else {
-        return Err(Refusal::Shape);
-    };
-    if (body.end as usize) < count {
+    let body = cells
+        .read_expression(header.formals as u16)
+        .ok_or(Refusal::Shape)?;
+    if body.end < cells.len() {
         return Err(Refusal::Shape);
     }
-    if has_repeated(&cells, header.formals) {
+    if cells.has_repeated(header.formals) {
         return Err(Refusal::Twice);
     }
     if body.depth > MAX_DEPTH {
