@@ -1,38 +1,17 @@
 -- From what the parts of `parse` say to what it says of the line.
-use Rattle.std.proofs.Common.{◌≡◌, ℕ, zero, suc, ◌/◌, ◌%◌, ◌<◌, ◌≤◌, Bool, true, false, List, [], ◌∷◌, ◌++◌, length, get_or, drop, IfSome, Some, None, Ok, Err, vec_items, codes, nat_eq, Option, Vec, sym, refl, ap, ◌∙◌, subst, inl, inr, arith, Bor}
-use Rattle.std.specs.List.{starts_with}
+use Rattle.std.proofs.Common.{◌≡◌, ℕ, zero, suc, ◌/◌, ◌%◌, ◌<◌, List, [], ◌∷◌, ◌++◌, length, get_or, Some, None, Ok, Err, vec_items, codes, Option, Vec, sym, refl, ap, ◌∙◌, subst, inl, inr, arith, Bor}
 use Rattle.std.specs.declared.alloc.Global.{Global}
-use Rattle.std.proofs.lemmas.Slice.Eq.{starts_is}
-use Rattle.std.proofs.lemmas.Bool.{both_ways}
-use Rattle.std.proofs.lemmas.List.{nil_from_length, get_or_at}
+use Rattle.std.proofs.lemmas.List.{get_or_at}
 use Rattle.commands.specs.Hex.{digit, hex_of, Bytes, IsDigit, DigitsTo}
 use Rattle.commands.specs.Lines.{NoBlank, Splits}
-use Rattle.commands.specs.Commands.{written, Silent, IsName, FirstWord, Cause, Operand, Complete}
+use Rattle.commands.specs.Commands.{written, IsName, FirstWord, Cause, Operand, Complete}
 use Rattle.commands.specs.declared.command.Command.TheVariants.{Table}
 use Rattle.commands.specs.declared.command.Mistake.{Mistake}
 use Rattle.commands.specs.declared.command.Mistake.TheVariants.{UnknownCommand, MissingWord, SurplusWord, NotDigit, OddDigits, OutOfMemory}
-use Rattle.commands.proofs.Digit.{digit_range, digit_same}
+use Rattle.commands.proofs.Digit.{digit_same}
 use Rattle.commands.proofs.Decoding.{length-hex_of}
 use Rattle.commands.proofs.Splitting.{length_cut}
-use Rattle.std.proofs.lemmas.Bool.Decides.{Decides-eqb}
-
-pub silent_empty : (line : List ℕ) → length line ≡ 0 → Silent line
-silent_empty line e = inl (nil_from_length line e)
-
--- what `starts_with` says of a line and the comment's character
-abbrev pub Tested : List ℕ → Bool → Type 0
-Tested line r = r ≡ starts_with nat_eq line (35 ∷ [])
-
-pub silent_comment : (line : List ℕ) (r : Bool) → Tested line r → r ≡ true → Silent line
-silent_comment line r m e = inr (drop 1 line, (starts_is Decides-eqb line (35 ∷ []) r m).0 e)
-
-pub not_silent : (line : List ℕ) (r : Bool) → (length line ≡ 0 → ⊥) → Tested line r → r ≡ false → Silent line → ⊥
-not_silent line r some m e (inl none) = some (ap length none)
-not_silent line r some m e (inr p) = both_ways r e ((starts_is Decides-eqb line (35 ∷ []) r m).1 p.0 p.1)
-
-pub operands_fit : (line name : List ℕ) (o : Option (Bor (List ℕ))) → Splits line name o → IfSome o (λ text. length text.now ≤ length line)
-operands_fit line name None s = tt
-operands_fit line name (Some text) s = omega (arith, length_cut line name text.now s.0)
+use Rattle.std.proofs.lemmas.Bool.Decides.{nat_tests}
 
 -- each character of `hex_of` is a digit
 pub hex_of-digits : (bs : List ℕ) → Bytes bs → DigitsTo (length (hex_of bs)) (hex_of bs)
@@ -42,7 +21,8 @@ hex_of-digits (x ∷ bs) b (suc zero) h = (x % 16, omega arith, refl)
 hex_of-digits (x ∷ bs) b (suc (suc k)) h = hex_of-digits bs b.1 k (omega arith)
 
 blank_no_digit : IsDigit 32 → ⊥
-blank_no_digit p = grind (arith, digit_range p.0 p.1)
+unfolding digit
+blank_no_digit (d, small, is) = grind (arith, nat_tests)
 
 -- a text has one first word
 same_first : (w v r q : List ℕ) → NoBlank w → NoBlank v → w ++ (32 ∷ r) ≡ v ++ (32 ∷ q) → w ≡ v
@@ -50,18 +30,12 @@ same_first [] [] r q n m e = refl
 same_first [] (y ∷ v) r q n m e = let head : ◌≡◌ {A = ℕ} 32 y = cc in absurd (m 0 (omega arith) (sym head))
 same_first (x ∷ w) [] r q n m e = let head : ◌≡◌ {A = ℕ} x 32 = cc in absurd (n 0 (omega arith) head)
 same_first (x ∷ w) (y ∷ v) r q n m e =
-    let head : ◌≡◌ {A = ℕ} x y = cc in
     let tail : w ++ (32 ∷ r) ≡ v ++ (32 ∷ q) = cc in
-    let same : w ≡ v = same_first w v r q (λ k h. n (suc k) (omega arith)) (λ k h. m (suc k) (omega arith)) tail in
+    let same = same_first w v r q (λ k h. n (suc k) (omega arith)) (λ k h. m (suc k) (omega arith)) tail in
     cc
 
 table_no_blank : NoBlank (codes "table")
-table_no_blank zero h e = omega (arith, e)
-table_no_blank (suc zero) h e = omega (arith, e)
-table_no_blank (suc (suc zero)) h e = omega (arith, e)
-table_no_blank (suc (suc (suc zero))) h e = omega (arith, e)
-table_no_blank (suc (suc (suc (suc zero)))) h e = omega (arith, e)
-table_no_blank (suc (suc (suc (suc (suc k))))) h e = omega arith
+table_no_blank k h e = grind arith
 
 first_is_table : (line word rest : List ℕ) → FirstWord line word → line ≡ codes "table " ++ rest → word ≡ codes "table"
 first_is_table line word rest (inl whole, none) e =
@@ -94,10 +68,6 @@ only_memory line OddDigits (name, text, names, digits, odd) (Table v) bytes e =
     let same : text ≡ hex_of (vec_items v) = same_text line name _ _ names.0 names.1 e in
     absurd (omega (arith, ap length same, length-hex_of (vec_items v)))
 only_memory line OutOfMemory cause (Table v) bytes e = refl
-
-pub silent_complete : (line : List ℕ) → Silent line → Complete line (Ok None)
-silent_complete line (inl none) (Table v) bytes e = omega (arith, ap length (sym none ∙ e))
-silent_complete line (inr p) (Table v) bytes e = omega (arith, ap (λ (l : List ℕ). get_or l 0 0) (sym p.1 ∙ e))
 
 hex_of-same : (xs ys : List ℕ) → Bytes xs → Bytes ys → hex_of xs ≡ hex_of ys → xs ≡ ys
 hex_of-same [] [] p q e = refl
@@ -134,8 +104,3 @@ cause line name o OutOfMemory is s (text, some, hex) = (name, text.now, (is, (su
 pub unknown : (line word : List ℕ) (o : Option (Bor (List ℕ))) → Splits line word o → (IsName word → ⊥) → Cause line UnknownCommand
 unknown line word None s other = (word, (inl s.0, s.1), other)
 unknown line word (Some rest) s other = (word, (inr (rest.now, s.0), s.1), other)
-
-pub written_table : (line name : List ℕ) (o : Option (Bor (List ℕ))) (v : Vec ℕ Global) → IsName name → Splits line name o → Operand (length line) o (Ok v) → line ≡ written (Table v)
-written_table line name o v is s (text, some, e, fits) =
-    let here = (subst (Splits line name) some s).0 in
-    here ∙ ap (λ (l : List ℕ). l ++ (32 ∷ text.now)) is ∙ ap (λ (l : List ℕ). codes "table " ++ l) e

@@ -1,5 +1,5 @@
 -- Bytes written as lower-case hexadecimal digits, two to a byte.
-use Rattle.std.specs.Prelude.{◌≡◌, ℕ, ◌+◌, ◌/◌, ◌%◌, ◌<◌, cond, List, [], ◌∷◌, length, Ok, Err, vec_items, Result, Vec, ◌≢◌, nat_lt, slice_index}
+use Rattle.std.specs.Prelude.{◌≡◌, ℕ, ◌+◌, ◌/◌, ◌%◌, ◌<◌, cond, List, [], ◌∷◌, length, Some, None, Ok, Err, vec_items, Option, Result, Vec, nat_lt, slice_index}
 use Rattle.std.specs.declared.alloc.Global.{Global}
 use Rattle.commands.specs.declared.hex.HexError.{HexError}
 use Rattle.commands.specs.declared.hex.HexError.TheVariants.{NotDigit, OddDigits, OutOfMemory}
@@ -34,10 +34,10 @@ Fault text (NotDigit i) = (i < length text) × (IsDigit (slice_index text i) →
 Fault text OddDigits = (length text % 2 ≡ 1) × DigitsTo (length text) text
 Fault text OutOfMemory = IsHex text
 
--- what `check` answers for a text
-abbrev pub Checked : List ℕ → Result (Unit {0}) HexError → Type 0
-Checked text (Ok u) = IsHex text
-Checked text (Err e) = Fault text e × (e ≢ OutOfMemory)
+-- what `first_non_digit` answers for a text
+abbrev pub FirstNonDigit : List ℕ → Option ℕ → Type 0
+FirstNonDigit text None = DigitsTo (length text) text
+FirstNonDigit text (Some i) = (i < length text) × (IsDigit (slice_index text i) → ⊥) × DigitsTo i text
 
 -- what `decode` answers for a text
 abbrev pub Decoded : List ℕ → Result (Vec ℕ Global) HexError → Type 0

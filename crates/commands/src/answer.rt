@@ -6,7 +6,7 @@ use crate::command::Mistake;
 use format::refusal::Refusal;
 use std::fmt;
 
-#[derive(Clone, Copy)]
+#[derive(Clone, Copy, PartialEq, Eq, Debug)]
 pub enum Answer {
     Accepted,
     Refused(Refusal),

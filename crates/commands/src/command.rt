@@ -2,19 +2,19 @@
 ghost use Rattle.std.specs.Prelude.{◌≡◌, ◌≤◌, length, IfSome, None, Ok};
 ghost use Rattle.commands.specs.Commands.{Silent, Parsed, Complete, Operand};
 
-use crate::hex;
-use crate::hex::HexError;
+use crate::hex::{self, HexError};
 use crate::line::split_word;
 use std::alloc::Global;
+use std::error::Error;
 
-#[derive(Drop)]
+#[derive(Drop, Debug)]
 pub enum Command {
     // the bytes of a table to check
     Table(Vec<u8>),
 }
 
 // What is wrong with a line. The first character has column 1.
-#[derive(Clone, Copy)]
+#[derive(Clone, Copy, PartialEq, Eq, Debug)]
 pub enum Mistake {
     UnknownCommand,
     MissingWord,
@@ -26,24 +26,23 @@ pub enum Mistake {
     OutOfMemory,
 }
 
+impl Error for Mistake {}
+
 // The bytes of the one operand of `line`, which is in hexadecimal.
 fn hex_operand(heap: Global, line: &[u8], operands: Option<&[u8]>) -> Result<Vec<u8>, Mistake>
     requires { IfSome operands (λ text. length text.now ≤ length line.now) }
     ensures { Operand (length line.now) operands.entry result }
 {
-    let Some(text) = operands else {
-        return Err(Mistake::MissingWord);
-    };
+    let text = operands.ok_or(Mistake::MissingWord)?;
     let (word, more) = split_word(text);
     if let Some(more) = more {
         return Err(Mistake::SurplusWord(line.len() - more.len()));
     }
-    match hex::decode(heap, word) {
-        Ok(bytes) => Ok(bytes),
-        Err(HexError::NotDigit(i)) => Err(Mistake::NotDigit(line.len() - word.len() + i + 1)),
-        Err(HexError::OddDigits) => Err(Mistake::OddDigits),
-        Err(HexError::OutOfMemory) => Err(Mistake::OutOfMemory),
-    }
+    hex::decode(heap, word).map_err(|error| match error {
+        HexError::NotDigit(i) => Mistake::NotDigit(line.len() - word.len() + i + 1),
+        HexError::OddDigits => Mistake::OddDigits,
+        HexError::OutOfMemory => Mistake::OutOfMemory,
+    })
 }
 
 // The command on a line, given without its end; an empty line and a comment have none.

@@ -1,11 +1,11 @@
 // Lower-case hexadecimal digits, two to a byte.
-ghost use Rattle.std.specs.Prelude.{◌≡◌, ◌<◌, Decides};
+ghost use Rattle.std.specs.Prelude.{◌≡◌, ◌<◌, MatchOption};
 ghost use Rattle.commands.specs.declared.hex.HexError.TheVariants.{OutOfMemory};
-ghost use Rattle.commands.specs.Hex.{digit, IsDigit, Checked, Decoded};
+ghost use Rattle.commands.specs.Hex.{digit, IsDigit, FirstNonDigit, Decoded};
 
-use std::alloc::{AllocError, AllocFailed, Global};
+use std::alloc::{AllocError, Global};
 
-#[derive(Clone, Copy)]
+#[derive(Clone, Copy, PartialEq, Eq, Debug)]
 pub enum HexError {
     // the index of the first character that is no digit
     NotDigit(usize),
@@ -21,56 +21,38 @@ impl From<AllocError> for HexError {
     }
 }
 
-impl<T: Drop> From<AllocFailed<T>> for HexError {
-    ghost from_gives = { λ _ e. e ≡ OutOfMemory };
-
-    fn from(_: AllocFailed<T>) -> HexError {
-        HexError::OutOfMemory
-    }
-}
-
-fn is_digit(c: u8) -> bool
-    ensures { Decides result (IsDigit c) }
-{
-    matches!(c, b'0'..=b'9' | b'a'..=b'f')
-}
-
-// The number that a digit stands for.
-fn value(c: u8) -> u8
-    requires { IsDigit c }
-    ensures { (result < 16) × (digit result ≡ c) }
+// The number that a digit stands for; `None` where `c` is no digit.
+#[tactic(auto, unfolding(crate::specs::Hex::digit))]
+fn to_digit(c: u8) -> Option<u8>
+    ensures { MatchOption result (¬ IsDigit c) (λ d. (d < 16) × (digit d ≡ c)) }
 {
     match c {
-        b'0'..=b'9' => c - b'0',
-        _ => c - b'a' + 10,
+        b'0'..=b'9' => Some(c - b'0'),
+        b'a'..=b'f' => Some(c - b'a' + 10),
+        _ => None,
     }
 }
 
-// An error where a text is not bytes in hexadecimal.
-fn check(text: &[u8]) -> Result<(), HexError>
-    ensures { Checked text.now result }
+// The index of the first character that is no digit.
+fn first_non_digit(text: &[u8]) -> Option<usize>
+    ensures { FirstNonDigit text.now result }
 {
-    for (i, c) in text.iter().enumerate() {
-        if !is_digit(*c) {
-            return Err(HexError::NotDigit(i));
-        }
-    }
-    if text.len() % 2 == 1 {
-        return Err(HexError::OddDigits);
-    }
-    Ok(())
+    text.iter().position(|&c| to_digit(c).is_none())
 }
 
 // The bytes that a text writes in hexadecimal, the high digit of each first.
 pub fn decode(heap: Global, text: &[u8]) -> Result<Vec<u8>, HexError>
     ensures { Decoded text.now result }
 {
-    check(text)?;
-    let mut bytes = Vec::with_capacity(heap, text.len() / 2)?;
-    for i in 0..text.len() / 2 {
-        let high = value(text[2 * i]);
-        let low = value(text[2 * i + 1]);
-        bytes.push(16 * high + low)?;
+    if let Some(i) = first_non_digit(text) {
+        return Err(HexError::NotDigit(i));
     }
+    let (pairs, []) = text.as_chunks::<2>() else {
+        return Err(HexError::OddDigits);
+    };
+    let bytes = pairs
+        .iter()
+        .map(|&[high, low]| 16 * to_digit(high).unwrap() + to_digit(low).unwrap())
+        .collect(heap)?;
     Ok(bytes)
 }

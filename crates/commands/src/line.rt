@@ -15,10 +15,8 @@ pub fn without_end(line: &[u8]) -> &[u8]
 pub(crate) fn split_word(text: &[u8]) -> (&[u8], Option<&[u8]>)
     ensures { Splits text.now result.0.now result.1 }
 {
-    for (i, c) in text.iter().enumerate() {
-        if *c == b' ' {
-            return (&text[0..i], Some(&text[i + 1..]));
-        }
+    match text.iter().position(|&c| c == b' ') {
+        Some(i) => (&text[..i], Some(&text[i + 1..])),
+        None => (text, None),
     }
-    (text, None)
 }

@@ -1,41 +1,31 @@
-use Rattle.std.proofs.Common.{◌≡◌, ℕ, List, length, Err, sym, ap, subst, arith}
+use Rattle.std.proofs.Common.{◌≡◌, ℕ, ◌+◌, ◌-◌, ◌≤◌, List, length, Some, Ok, Err, MatchResult, Option, Result, Vec, Bor, sym, ap, subst, arith}
+use Rattle.std.specs.declared.alloc.Global.{Global}
 use Rattle.std.proofs.lemmas.Option.{MatchOption-at_some}
+use Rattle.std.proofs.lemmas.Result.{MatchResult-weaker}
+use Rattle.std.proofs.lemmas.Grind.{common_steps}
+use Rattle.commands.specs.declared.hex.HexError.{HexError}
 use Rattle.commands.specs.declared.hex.HexError.TheVariants.{NotDigit, OddDigits, OutOfMemory}
-use Rattle.commands.specs.Hex.{Decoded, IsHex}
+use Rattle.commands.specs.declared.command.Mistake.{Mistake}
+use Rattle.commands.specs.Commands.{Operand}
+use Rattle.commands.specs.Hex.{Decoded}
 use Rattle.commands.specs.Lines.{NoBlank, Splits}
-use Rattle.commands.proofs.Splitting.{length_cut}
 use Rattle.commands.proofs.command.hex_operand.Goals as goal
 
-pub overflow_sub-result : goal.overflow_sub-result
-overflow_sub-result c =
-    let parts = subst (Splits _ _) c.in-Some-more.is c.split_word.ensures in
-    let fits = MatchOption-at_some _ _ _ c.in-Some.is c.requires in
-    omega (arith, fits, length_cut _ _ _ parts.0)
+-- the mistake for an error in a text, which is the last m of the n characters of a line
+abbrev mistake : ℕ → ℕ → HexError → Mistake
+mistake n m (NotDigit i) = Mistake.NotDigit (n - m + i + 1)
+mistake n m OddDigits = Mistake.OddDigits
+mistake n m OutOfMemory = Mistake.OutOfMemory
 
-pub returns-in-Some-more : goal.returns-in-Some-more
-returns-in-Some-more c =
-    let parts = subst (Splits _ _) c.in-Some-more.is c.split_word.ensures in
-    let fits = MatchOption-at_some _ _ _ c.in-Some.is c.requires in
-    (c.in-Some.text, c.split_word.result.0.now, c.in-Some-more.more.now, c.in-Some.is, parts.0, parts.1, omega (arith, fits, length_cut _ _ _ parts.0))
+answered : (n m : ℕ) (o : Option (Bor (List ℕ))) (text : Bor (List ℕ)) (r : Result (Vec ℕ Global) HexError) (s : Result (Vec ℕ Global) Mistake) → o ≡ Some text → m ≡ length text.now → m ≤ n → NoBlank text.now → Decoded text.now r → MatchResult r (λ v. s ≡ Ok v) (λ e. s ≡ Err (mistake n m e)) → Operand n o s
+answered n m o text (Ok v) s is long fits none told same = rw same (text, is, told.0, told.1)
+answered n m o text (Err (NotDigit i)) s is long fits none told same = rw same (text, i, is, none, told.0, told.1, told.2, omega arith)
+answered n m o text (Err OddDigits) s is long fits none told same = rw same (text, is, told.1, told.0)
+answered n m o text (Err OutOfMemory) s is long fits none told same = rw same (text, is, told)
 
-pub returns-in-Err-NotDigit : goal.returns-in-Err-NotDigit
-returns-in-Err-NotDigit c =
-    let parts = subst (Splits _ _) c.in_default-more.is c.split_word.ensures in
-    let fits = MatchOption-at_some _ _ _ c.in-Some.is c.requires in
-    let i = c.in-Err-NotDigit.i in
-    let is : c.decode.result ≡ Err (NotDigit i) = cc in
-    let told = subst (λ (l : List ℕ). Decoded l (Err (NotDigit i))) (sym parts.0) (subst (Decoded _) is c.decode.ensures) in
-    (c.in-Some.text, i, c.in-Some.is, subst NoBlank (sym parts.0) parts.1, told.0, told.1, told.2, omega (arith, fits, ap length parts.0))
-
-pub returns-in-Err-OddDigits : goal.returns-in-Err-OddDigits
-returns-in-Err-OddDigits c =
-    let whole = (subst (Splits _ _) c.in_default-more.is c.split_word.ensures).0 in
-    let is : c.decode.result ≡ Err OddDigits = cc in
-    let told = subst (λ (l : List ℕ). Decoded l (Err OddDigits)) (sym whole) (subst (Decoded _) is c.decode.ensures) in
-    (c.in-Some.text, c.in-Some.is, told.1, told.0)
-
-pub returns-in-Err-OutOfMemory : goal.returns-in-Err-OutOfMemory
-returns-in-Err-OutOfMemory c =
-    let whole = (subst (Splits _ _) c.in_default-more.is c.split_word.ensures).0 in
-    let is : c.decode.result ≡ Err OutOfMemory = cc in
-    (c.in-Some.text, c.in-Some.is, subst IsHex (sym whole) (subst (Decoded _) is c.decode.ensures))
+pub returns : goal.returns
+returns c =
+    let parts = subst (Splits _ _) c.in_default.is c.split_word.ensures in
+    let some : c.args.operands ≡ Some c.in_ok-text.text = grind arith in
+    let fits = MatchOption-at_some _ _ _ some c.requires in
+    answered _ (length c.split_word.result.0.now) _ c.in_ok-text.text c.decode.result _ some (ap length (sym parts.0)) (omega (arith, fits, ap length parts.0)) (rw parts.0 parts.1) (rw parts.0 c.decode.ensures) (MatchResult-weaker c.decode.result c.map_err.ensures.cases (λ x e. e) (λ e k. grind (arith, common_steps)))

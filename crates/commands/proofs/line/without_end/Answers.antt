@@ -1,7 +1,6 @@
-use Rattle.std.proofs.Common.{ℕ, List, [], ◌∷◌, sym, refl, subst, inr, Bor}
+use Rattle.std.proofs.Common.{[], ◌∷◌}
 use Rattle.std.proofs.lemmas.Slice.Eq.{strip_suffix_is}
-use Rattle.std.proofs.lemmas.Option.{MatchOption-at_some, MatchOption-at_none}
-use Rattle.commands.specs.Lines.{HasText}
+use Rattle.std.proofs.lemmas.Option.{MatchOption-at_some}
 use Rattle.commands.proofs.Splitting.{ended}
 use Rattle.commands.proofs.line.without_end.Goals as goal
 use Rattle.std.proofs.lemmas.Bool.Decides.{Decides-eqb}
@@ -12,10 +11,4 @@ returns-in-Some c =
     let text = c.in-Some.text in
     let first = MatchOption-at_some _ _ text c.in-Some.is (strip_suffix_is Decides-eqb line (10 ∷ []) _ c.strip_suffix.ensures.cases) in
     let second = strip_suffix_is Decides-eqb text.now (13 ∷ []) _ c.strip_suffix-in-Some.ensures.cases in
-    subst (λ (r : Bor (List ℕ)). HasText line r.now) (sym c.unwrap_or.ensures) (ended line text _ first second)
-
-pub returns-in-None : goal.returns-in-None
-returns-in-None c =
-    let line = c.args.line.now in
-    let found = strip_suffix_is Decides-eqb line (10 ∷ []) _ c.strip_suffix.ensures.cases in
-    inr (inr (refl, λ p. MatchOption-at_none _ _ c.in-None.is found p.0 p.1))
+    rw c.unwrap_or.ensures (ended line text _ first second)
