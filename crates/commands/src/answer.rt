@@ -44,14 +44,7 @@ impl fmt::Display for Answer {
     fn fmt<W: fmt::Write>(&self, f: &mut fmt::Formatter<W>) -> fmt::Result {
         match self {
             Answer::Accepted => f.write_str("accepted"),
-            Answer::Refused(refusal) => {
-                let number = refusal.number();
-                let word = refusal.word();
-                match refusal.index() {
-                    Some(index) => write!(f, "refused {number} {word} {index}"),
-                    None => write!(f, "refused {number} {word}"),
-                }
-            }
+            Answer::Refused(refusal) => write!(f, "refused {refusal}"),
             Answer::Error(mistake) => write!(f, "error {mistake}"),
         }
     }

@@ -1,6 +1,5 @@
 -- The listing of the bytes of an image.
-use Rattle.std.specs.Prelude.{◌≡◌, ℕ, ◌<◌, ◌≤◌, List, length, Ok, Err, vec_items, Result, Vec, slice_index_or}
-use Rattle.std.specs.declared.alloc.Global.{Global}
+use Rattle.std.specs.Prelude.{◌≡◌, ℕ, ◌<◌, List, length, Ok, Err, Result, slice_index_or}
 use Rattle.format.specs.declared.header.Header.{Header}
 use Rattle.format.specs.declared.image.Image.{Image}
 use Rattle.format.specs.declared.instr.Instr.{Instr}
@@ -8,7 +7,7 @@ use Rattle.format.specs.declared.instr.Instr.TheVariants.{Pop}
 use Rattle.format.specs.Refusals.{told}
 use Rattle.format.specs.Layout.{codes_in, operands_in}
 use Rattle.format.specs.Headers.{HeaderAt}
-use Rattle.format.specs.Images.{ImageSized, ImageHead, InstrAt, AllInstrs, ImageRefused, codes_of_image, operands_of_image, ImageRead}
+use Rattle.format.specs.Images.{ImageSized, ImageHead, InstrAt, ImageRefused, ImageRead}
 use Rattle.listing.specs.declared.Listing.{Listing}
 use Rattle.listing.specs.declared.list.ListError.{ListError}
 use Rattle.listing.specs.declared.list.ListError.TheVariants.{Refused, OutOfMemory}
@@ -32,13 +31,3 @@ abbrev pub Listed : List ℕ → Result Listing ListError → Type 0
 Listed bytes (Ok l) = ImageOf bytes (instrs_of l) × Lists (instrs_of l) l
 Listed bytes (Err (Refused e)) = ImageRefused bytes (told e)
 Listed bytes (Err OutOfMemory) = (image : Image) × ImageRead bytes (Ok image)
-
--- every instruction of an image that was read can be read again
-pub record Readable (image : Image) : Type 0 where
-  pub few : length (codes_of_image image) ≤ 6144
-  pub each : AllInstrs (codes_of_image image) (operands_of_image image) image.header
-
--- what `collect` answers
-abbrev pub Collected : Image → Result (Vec Instr Global) ListError → Type 0
-Collected image (Ok v) = Decodes (codes_of_image image) (operands_of_image image) image.header (vec_items v)
-Collected image (Err e) = e ≡ OutOfMemory

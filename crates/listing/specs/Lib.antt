@@ -1,3 +1,4 @@
+pub mod Lines
 pub mod Passes
 pub mod Lists
 pub mod Images

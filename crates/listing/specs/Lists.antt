@@ -3,13 +3,14 @@ use Rattle.std.specs.Prelude.{◌≡◌, ℕ, ◌+◌, ◌<◌, List, length, ve
 use Rattle.format.specs.declared.instr.Instr.{Instr}
 use Rattle.format.specs.Heights.{needs, leaves, GoesTo, At, Reaches}
 use Rattle.listing.specs.declared.Listing.{Listing}
+use Rattle.listing.specs.Lines.{instrs_in, heights_in}
 use Rattle.listing.specs.Passes.{Tells}
 
 abbrev pub instrs_of : Listing → List Instr
-instrs_of l = vec_items l.instrs
+instrs_of l = instrs_in (vec_items l.lines)
 
 abbrev pub heights_of : Listing → List (Option ℕ)
-heights_of l = vec_items l.heights
+heights_of l = heights_in (vec_items l.lines)
 
 -- each known height is one with which control reaches that place
 abbrev pub Sound : List Instr → List (Option ℕ) → Type 0
@@ -31,6 +32,5 @@ Complete code heights = Level code → (p h : ℕ) → p < length code → Forwa
 -- a listing of this code
 pub record Lists (code : List Instr) (l : Listing) : Type 0 where
   pub instrs_are : instrs_of l ≡ code
-  pub one_each : length (heights_of l) ≡ length code
   pub sound : Sound code (heights_of l)
   pub complete : Complete code (heights_of l)

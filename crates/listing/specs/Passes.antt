@@ -2,6 +2,8 @@
 use Rattle.std.specs.Prelude.{◌≡◌, ℕ, ◌+◌, ◌<◌, ◌⊎◌, List, length, Some, None, Option, slice_index_or}
 use Rattle.format.specs.declared.instr.Instr.{Instr}
 use Rattle.format.specs.Heights.{needs, leaves, GoesTo}
+use Rattle.listing.specs.declared.Line.{Line}
+use Rattle.listing.specs.Lines.{instrs_in, heights_in}
 
 -- the height at k is known, and is h
 abbrev pub Tells : List (Option ℕ) → ℕ → ℕ → Type 0
@@ -22,6 +24,11 @@ pub record Adds (New : ℕ → ℕ → Type 0) (before after : List (Option ℕ)
   pub kept : (k h : ℕ) → Tells before k h → Tells after k h
   pub only : (k h : ℕ) → Tells after k h → Tells before k h ⊎ New k h
   pub known : (k h : ℕ) → New k h → k < length before → (g : ℕ) × Tells after k g
+
+-- the same of lines, whose instructions stay
+pub record Notes (New : ℕ → ℕ → Type 0) (before after : List Line) : Type 0 where
+  pub instrs : instrs_in after ≡ instrs_in before
+  pub heights : Adds New (heights_in before) (heights_in after)
 
 -- this height, at this place
 abbrev pub Here : ℕ → ℕ → ℕ → ℕ → Type 0

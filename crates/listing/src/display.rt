@@ -5,13 +5,13 @@ use std::fmt;
 // One line for each instruction: its index, name, operand and height, or `-` where that is unknown.
 impl fmt::Display for Listing {
     fn fmt<W: fmt::Write>(&self, f: &mut fmt::Formatter<W>) -> fmt::Result {
-        for (i, instr) in self.instrs.iter().enumerate() {
-            let name = instr.name();
-            let operand = instr.operand();
+        for (i, line) in self.lines.iter().enumerate() {
+            let name = line.instr.name();
+            let operand = line.instr.operand();
             write!(f, "  {i:>4}  {name:<6}  {operand:>11}  height ")?;
-            match self.heights.get(i) {
-                Some(Some(height)) => writeln!(f, "{height:>4}")?,
-                _ => writeln!(f, "{:>4}", "-")?,
+            match line.height {
+                Some(height) => writeln!(f, "{height:>4}")?,
+                None => writeln!(f, "{:>4}", "-")?,
             }
         }
         Ok(())

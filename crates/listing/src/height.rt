@@ -1,8 +1,11 @@
 // The height of the operand stack at each instruction.
 ghost use Rattle.std.specs.Prelude.{◌≡◌, ◌<◌, length, MatchOption};
-ghost use Rattle.format.specs.Heights.{needs, leaves};
-ghost use Rattle.listing.specs.Passes.{After, NoneAfter, Adds, Here, Onward, Stepped};
+ghost use Rattle.format.specs.declared.instr.Instr.{Instr};
+ghost use Rattle.format.specs.Heights.{needs, leaves, At};
+ghost use Rattle.listing.specs.Lines.{instrs_in, heights_in};
+ghost use Rattle.listing.specs.Passes.{After, NoneAfter, Notes, Here, Onward, Stepped};
 
+use crate::Line;
 use format::instr::Instr;
 
 // How many values an instruction takes off the stack.
@@ -46,44 +49,39 @@ fn after(instr: Instr, height: u16) -> Option<u16>
 }
 
 // Notes a height at a place of the code, unless it has one.
-pub(crate) fn note(heights: &mut [Option<u16>], place: usize, height: u16)
-    ensures { Adds (Here place height) heights.old heights.new }
+pub(crate) fn note(lines: &mut [Line], place: usize, height: u16)
+    ensures { Notes (Here place height) lines.old lines.new }
 {
-    if place >= heights.len() {
-        return;
+    // By the index: after `get_mut` of a slice a proof knows none of its elements.
+    if place < lines.len() {
+        lines[place].height.get_or_insert(height);
     }
-    if heights[place].is_some() {
-        return;
-    }
-    heights[place] = Some(height);
 }
 
 // Notes a height at each place where control goes from an instruction at `p`.
-fn note_onward(heights: &mut [Option<u16>], p: usize, instr: Instr, height: u16)
-    requires { p < length heights.old }
-    ensures { Adds (Onward instr p height) heights.old heights.new }
+fn note_onward(lines: &mut [Line], p: usize, instr: Instr, height: u16)
+    requires { p < length lines.old }
+    ensures { Notes (Onward instr p height) lines.old lines.new }
 {
     match instr {
-        Instr::Jump(target) => note(heights, target as usize, height),
+        Instr::Jump(target) => note(lines, target as usize, height),
         Instr::Jz(target) => {
-            note(heights, target as usize, height);
-            note(heights, p + 1, height);
+            note(lines, target as usize, height);
+            note(lines, p + 1, height);
         }
         Instr::Ret | Instr::Bind(_) => {}
-        _ => note(heights, p + 1, height),
+        _ => note(lines, p + 1, height),
     }
 }
 
-// The same with the height after the instruction, where there is one.
-pub(crate) fn follow(heights: &mut [Option<u16>], p: usize, instr: Instr)
-    requires { p < length heights.old }
-    ensures { Adds (Stepped heights.old instr p) heights.old heights.new }
+// The same with the height after the instruction at `p`, where there is one.
+pub(crate) fn follow(lines: &mut [Line], p: usize)
+    requires { p < length lines.old }
+    ensures { (i : Instr) → At (instrs_in lines.old) p i → Notes (Stepped (heights_in lines.old) i p) lines.old lines.new }
 {
-    let Some(height) = heights[p] else {
+    let line = lines[p];
+    let Some(height_after) = line.height.and_then(|height| after(line.instr, height)) else {
         return;
     };
-    let Some(height_after) = after(instr, height) else {
-        return;
-    };
-    note_onward(heights, p, instr, height_after);
+    note_onward(lines, p, line.instr, height_after);
 }

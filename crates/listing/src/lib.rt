@@ -12,11 +12,16 @@ pub mod display;
 mod height;
 pub mod list;
 
+#[derive(Clone, Copy, PartialEq, Eq, Debug)]
+pub struct Line {
+    pub instr: Instr,
+    // None where it is not known
+    pub height: Option<u16>,
+}
+
 #[derive(Drop)]
 pub struct Listing {
-    instrs: Vec<Instr>,
-    // None where it is not known
-    heights: Vec<Option<u16>>,
+    lines: Vec<Line>,
 }
 
 impl Listing {
@@ -25,17 +30,23 @@ impl Listing {
     pub fn new(heap: Global, instrs: Vec<Instr>) -> Result<Listing, AllocError>
         ensures { IfOk result (Lists instrs.items) }
     {
-        let mut heights = vec![in heap; None; instrs.len()]?;
-        note(&mut heights, 0, 0);
-        for (p, instr) in instrs.iter().enumerate() {
-            follow(&mut heights, p, *instr);
+        let mut lines: Vec<Line> = instrs
+            .into_iter()
+            .map(|instr| Line {
+                instr,
+                height: None,
+            })
+            .collect(heap)?;
+        note(&mut lines, 0, 0);
+        for p in 0..lines.len() {
+            follow(&mut lines, p);
         }
-        Ok(Listing { instrs, heights })
+        Ok(Listing { lines })
     }
 
     pub fn len(&self) -> usize
         ensures { result ≡ length (instrs_of self.now) }
     {
-        self.instrs.len()
+        self.lines.len()
     }
 }

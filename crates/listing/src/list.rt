@@ -1,18 +1,27 @@
 // The listing of an image that is given as bytes.
-ghost use Rattle.std.specs.Prelude.{◌≡◌};
-ghost use Rattle.listing.specs.declared.list.ListError.TheVariants.{OutOfMemory};
-ghost use Rattle.listing.specs.Images.{Readable, Collected, Listed};
+ghost use Rattle.std.specs.Prelude.{◌≡◌, IfOk};
+ghost use Rattle.format.specs.Images.{codes_of_image, operands_of_image, EachInstr};
+ghost use Rattle.listing.specs.declared.list.ListError.TheVariants.{Refused, OutOfMemory};
+ghost use Rattle.listing.specs.Images.{Decodes, Listed};
 
 use crate::Listing;
 use format::image::Image;
 use format::instr::Instr;
 use format::refusal::Refusal;
-use std::alloc::{AllocError, AllocFailed, Global};
+use std::alloc::{AllocError, Global};
 
-#[derive(Clone, Copy)]
+#[derive(Clone, Copy, PartialEq, Eq, Debug)]
 pub enum ListError {
     Refused(Refusal),
     OutOfMemory,
+}
+
+impl From<Refusal> for ListError {
+    ghost from_gives = { λ refusal e. e ≡ Refused refusal };
+
+    fn from(refusal: Refusal) -> ListError {
+        ListError::Refused(refusal)
+    }
 }
 
 impl From<AllocError> for ListError {
@@ -23,38 +32,19 @@ impl From<AllocError> for ListError {
     }
 }
 
-impl<T: Drop> From<AllocFailed<T>> for ListError {
-    ghost from_gives = { λ _ e. e ≡ OutOfMemory };
-
-    fn from(_: AllocFailed<T>) -> ListError {
-        ListError::OutOfMemory
-    }
-}
-
 pub fn list(heap: Global, bytes: &[u8]) -> Result<Listing, ListError>
     ensures { Listed bytes.now result }
 {
-    let image = match Image::read(bytes) {
-        Ok(image) => image,
-        Err(refusal) => return Err(ListError::Refused(refusal)),
-    };
+    let image = Image::read(bytes)?;
     let instrs = collect(heap, &image)?;
-    let listing = Listing::new(heap, instrs)?;
-    Ok(listing)
+    Ok(Listing::new(heap, instrs)?)
 }
 
 // The instructions of an image that was read.
-fn collect(heap: Global, image: &Image) -> Result<Vec<Instr>, ListError>
-    requires { Readable image.now }
-    ensures { Collected image.now result }
+fn collect(heap: Global, image: &Image) -> Result<Vec<Instr>, AllocError>
+    requires { EachInstr image.now }
+    ensures { IfOk result (λ instrs. Decodes (codes_of_image image.now) (operands_of_image image.now) image.now.header instrs.items) }
 {
     let count = image.len() as u16;
-    let mut instrs = Vec::with_capacity(heap, count as usize)?;
-    for i in 0..count {
-        let Some(instr) = image.instr(i) else {
-            unreachable()
-        };
-        instrs.push(instr)?;
-    }
-    Ok(instrs)
+    (0..count).map(|i| image.instr(i).unwrap()).collect(heap)
 }

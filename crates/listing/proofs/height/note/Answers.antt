@@ -1,9 +1,5 @@
-use Rattle.std.proofs.Common.{sym}
-use Rattle.listing.proofs.Heights.{adds_known, adds_set}
+use Rattle.listing.proofs.Heights.{notes_here}
 use Rattle.listing.proofs.height.note.Goals as goal
 
-pub returns-then-is_some : goal.returns-then-is_some
-returns-then-is_some c = adds_known _ _ _ (sym c.if-is_some.ensures)
-
-pub returns : goal.returns
-returns c = adds_set _ _ _ c.if-place-heights.false (sym c.if-is_some.ensures)
+pub returns-then-place-lines : goal.returns-then-place-lines
+returns-then-place-lines c = notes_here _ _ _ _ _ c.if-place-lines.true c.get_or_insert.ensures.value
