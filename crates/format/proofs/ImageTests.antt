@@ -1,13 +1,11 @@
 -- What each answer of reading an image rests on.
-use Rattle.std.proofs.Common.{◌≡◌, ℕ, ◌<◌, ◌≤◌, List, length, drop, None, Some, Option, MatchOption, false, true, is_none, rules, sym, ap, ◌∙◌, subst, arith, length-drop, length-take}
+use Rattle.std.proofs.Common.{◌≡◌, ℕ, ◌<◌, ◌≤◌, List, length, None, Some, Option, MatchOption, false, true, is_none, rules, sym, ap, ◌∙◌, subst, arith}
 use Rattle.format.specs.declared.header.Header.{Header}
 use Rattle.format.specs.declared.image.Image.{Image}
 use Rattle.format.specs.declared.refusal.Refusal.TheVariants.{Code}
 use Rattle.format.specs.Refusals.{told}
-use Rattle.format.specs.Layout.{bytes4, count_in, codes_in, operands_in}
-use Rattle.format.specs.declared.header.Kind.{Kind}
-use Rattle.format.specs.declared.header.Kind.TheVariants.{Function, Variable}
-use Rattle.format.specs.Headers.{most_formals, HeaderAt}
+use Rattle.format.specs.Layout.{bytes4, codes_in, operands_in}
+use Rattle.format.specs.Headers.{HeaderAt}
 use Rattle.format.specs.declared.instr.Instr.{Instr}
 use Rattle.format.specs.declared.layout.Row.{Row}
 use Rattle.format.specs.Rows.{Cut, RowAt}
@@ -16,25 +14,18 @@ use Rattle.format.specs.Instrs.{NoInstr, IsInstr, Belongs, operand}
 use Rattle.language.specs.Limits.{IsValue}
 use Rattle.format.specs.Images.{ImageSized, ImageHead, InstrIn, NoInstrIn, HasInstr, AllInstrs, FirstNoInstr, ImageRefused, CODE, codes_of_image, operands_of_image, ImageIn}
 use Rattle.format.proofs.Bytes.{bytes4_injective}
-
-most_low : (k : Kind) → most_formals k < 16
-most_low Function = omega arith
-most_low Variable = omega arith
+use Rattle.format.proofs.Headers.{few_formals, sizes}
 
 module _ (bytes codes operands : List ℕ) (cut : Cut bytes codes operands) where
-  count_is : length codes ≡ count_in bytes
-  count_is =
-      ap length cut.codes_are ∙ length-take (count_in bytes) (drop 8 bytes) ∙ omega (arith, length-drop 8 bytes, cut.whole.long)
-
   pub some_sized : 0 < length codes → length codes ≤ 6144 → ImageSized bytes
-  some_sized some few = record { whole = cut.whole; some = omega (arith, count_is); few = omega (arith, count_is) }
+  some_sized some few = record { whole = cut.whole; some = omega (arith, (sizes bytes codes operands cut).0); few = omega (arith, (sizes bytes codes operands cut).0) }
 
   pub sized_some : ImageSized bytes → (0 < length codes) × (length codes ≤ 6144)
-  sized_some s = (omega (arith, count_is, s.some), omega (arith, count_is, s.few))
+  sized_some s = (omega (arith, (sizes bytes codes operands cut).0, s.some), omega (arith, (sizes bytes codes operands cut).0, s.few))
 
   module _ (h : Header) (at : HeaderAt bytes h) where
     pub formals_few : h.formals < 16
-    formals_few = omega (arith, at.formals, at.headed.formals, most_low at.headed.kind)
+    formals_few = omega (arith, at.formals, at.headed.formals, few_formals at.headed.kind)
 
     pub some_head : 0 < h.height → h.height ≤ 2048 → ImageHead bytes
     some_head some low = record { some = omega (arith, at.height); low = omega (arith, at.height); headed = at.headed }

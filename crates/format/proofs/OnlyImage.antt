@@ -1,22 +1,14 @@
 -- Reading has one answer only.
-use Rattle.std.proofs.Common.{◌≡◌, ℕ, ◌<◌, List, Ok, Err, Result, sym, refl, ap, ◌∙◌, subst, arith}
-use native.Mathlib.Decide.{dec_lt}
+use Rattle.std.proofs.Common.{◌≡◌, ℕ, ◌<◌, List, Ok, Err, Result, sym, refl, ap, ◌∙◌, subst}
 use Rattle.format.specs.declared.header.Header.{Header}
-use Rattle.format.specs.declared.header.Kind.{Kind}
-use Rattle.format.specs.declared.header.Kind.TheVariants.{Function, Variable}
 use Rattle.format.specs.declared.image.Image.{Image}
 use Rattle.format.specs.declared.refusal.Refusal.{Refusal}
 use Rattle.format.specs.declared.refusal.Refusal.TheVariants.{Code}
 use Rattle.format.specs.Refusals.{Told, told}
-use Rattle.format.specs.Layout.{kind_byte, codes_in, operands_in}
+use Rattle.format.specs.Layout.{codes_in, operands_in}
 use Rattle.format.specs.Headers.{HeaderAt}
+use Rattle.format.proofs.Headers.{one_kind, only_first}
 use Rattle.format.specs.Images.{HasInstr, FirstNoInstr, ImageRefused, SIZE, HEAD, CODE, ImageIn, ImageRead, answer, ImageAnswered}
-
-one_kind : (k l : Kind) → kind_byte k ≡ kind_byte l → k ≡ l
-one_kind Function Function e = refl
-one_kind Function Variable e = absurd (omega arith)
-one_kind Variable Function e = absurd (omega arith)
-one_kind Variable Variable e = refl
 
 one_header : {bytes : List ℕ} {h k : Header} → HeaderAt bytes h → HeaderAt bytes k → h ≡ k
 one_header {bytes} {h} {k} x y =
@@ -27,20 +19,13 @@ one_header {bytes} {h} {k} x y =
     λ i. record { height = height i; kind = kind i; number = number i; formals = formals i }
 
 module _ (codes operands : List ℕ) (h : Header) where
-  not_later : {i j : ℕ} → FirstNoInstr codes operands h i → FirstNoInstr codes operands h j → i < j → ⊥
-  not_later x y lt = x.wrong _ (y.before _ lt).here
-
-  one_index : {i j : ℕ} → FirstNoInstr codes operands h i → FirstNoInstr codes operands h j → i ≡ j
-  one_index {i} {j} x y =
-      elim (dec_lt i j) [
-        | yes lt ↦ absurd (not_later x y lt)
-        | no ge ↦ elim (dec_lt j i) [ yes lt ↦ absurd (not_later y x lt) | no le ↦ omega arith ]
-      ]
+  not_later : (i j : ℕ) → FirstNoInstr codes operands h i → FirstNoInstr codes operands h j → i < j → ⊥
+  not_later i j x y lt = x.wrong _ (y.before _ lt).here
 
 module _ (bytes : List ℕ) where
   one_code : {h k : Header} {i j : ℕ} → HeaderAt bytes h → HeaderAt bytes k → FirstNoInstr (codes_in bytes) (operands_in bytes) h i → FirstNoInstr (codes_in bytes) (operands_in bytes) k j → i ≡ j
   one_code {h} {k} {i} {j} x y v w =
-      one_index _ _ _ v (subst (λ l. FirstNoInstr (codes_in bytes) (operands_in bytes) l j) (one_header y x) w)
+      only_first (FirstNoInstr (codes_in bytes) (operands_in bytes) h) (not_later (codes_in bytes) (operands_in bytes) h) i j v (subst (λ l. FirstNoInstr (codes_in bytes) (operands_in bytes) l j) (one_header y x) w)
 
   one_refusal : {a b : Told} → ImageRefused bytes a → ImageRefused bytes b → a ≡ b
   one_refusal (SIZE z) (SIZE y) = refl

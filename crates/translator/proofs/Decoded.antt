@@ -1,5 +1,5 @@
 -- From bytes that pass every test to their definition.
-use Rattle.std.proofs.Common.{◌≡◌, ℕ, zero, suc, ◌+◌, ◌*◌, ◌/◌, ◌%◌, ◌<◌, ◌≤◌, true, List, [], ◌∷◌, ◌++◌, map, length, get_or, take, drop, sym, refl, ap, ◌∙◌, subst, arith, length-append, length-drop, take-append-drop, length-take, lt-ltb}
+use Rattle.std.proofs.Common.{◌≡◌, ℕ, zero, suc, ◌+◌, ◌/◌, ◌%◌, ◌<◌, ◌≤◌, true, List, [], ◌∷◌, ◌++◌, map, length, get_or, take, drop, sym, refl, ap, ◌∙◌, subst, arith, length-append, take-append-drop, lt-ltb}
 use Rattle.std.proofs.lemmas.List.{drop-drop, length-map}
 use Rattle.language.specs.Tree.{Exp, Definition, VAL, DEFINE, body, formals, number, depth, size}
 use Rattle.language.specs.Height.{height}
@@ -9,11 +9,12 @@ use Rattle.format.specs.declared.cell.Cell.TheVariants.{Literal, Var, Set, If, W
 use Rattle.format.specs.declared.header.Header.{Header}
 use Rattle.format.specs.declared.header.Kind.{Kind}
 use Rattle.format.specs.declared.header.Kind.TheVariants.{Function, Variable}
-use Rattle.format.specs.Layout.{header_bytes, layout, operand_bytes, kind_byte, count_in}
+use Rattle.format.specs.Layout.{header_bytes, layout, operand_bytes, count_in}
 use Rattle.format.specs.Headers.{most_formals, HeaderAt}
 use Rattle.format.specs.Rows.{Cut}
 use Rattle.format.specs.Cells.{code, operand, encode, cells, is_formal, kind_of, header_of}
 use Rattle.format.proofs.Bytes.{take_two}
+use Rattle.format.proofs.Headers.{one_kind, few_formals, sizes}
 use Rattle.translator.specs.declared.expression.Extent.{Extent}
 use Rattle.translator.specs.Tables.{CellAt, Right, AllRight, IsTable}
 use Rattle.translator.specs.Weight.{weight}
@@ -69,13 +70,6 @@ header_is t codes operands h cut at flat =
     let p₃ : get_or t 3 0 ≡ h.height / 256 = omega (arith, at.height, flat) in
     eight t at.long ∙ (λ i. p₀ i ∷ p₁ i ∷ p₂ i ∷ p₃ i ∷ sym at.kind i ∷ sym at.number i ∷ sym at.formals i ∷ at.headed.last i ∷ [])
 
-pub sizes : (t codes operands : List ℕ) → Cut t codes operands → (length codes ≡ count_in t) × (length operands ≡ 4 * count_in t)
-sizes t codes operands cut =
-    let w = cut.whole in (
-      ap length cut.codes_are ∙ length-take (count_in t) (drop 8 t) ∙ omega (arith, length-drop 8 t, w.long),
-      ap length cut.operands_are ∙ length-drop (8 + count_in t) t ∙ omega (arith, w.long),
-    )
-
 -- the whole
 pub layout_is : (t codes operands : List ℕ) (h : Header) (cs : List Cell) → Cut t codes operands → HeaderAt t h → h.height ≡ 0 → length cs ≡ length codes → CellsAt codes operands 0 cs → t ≡ layout h (map code cs) (map operand cs)
 layout_is t codes operands h cs cut at flat long x =
@@ -106,16 +100,6 @@ unfolding definition_of
 parts Function n xs e h = record { kind = refl; number_is = refl; formals_are = refl; body_is = refl }
 parts Variable n xs e h = record { kind = refl; number_is = refl; formals_are = empty xs h; body_is = refl }
 
-same_kind : (j k : Kind) → kind_byte j ≡ kind_byte k → j ≡ k
-same_kind Function Function h = refl
-same_kind Function Variable h = absurd (omega arith)
-same_kind Variable Function h = absurd (omega arith)
-same_kind Variable Variable h = refl
-
-fewer : (k : Kind) → most_formals k ≤ 15
-fewer Function = omega arith
-fewer Variable = omega arith
-
 pub record Decoded (t : List ℕ) (h : Header) (x : Extent) : Type 0 where
   pub definition : Definition
   pub table : IsTable t definition
@@ -141,7 +125,7 @@ module _ (t codes operands : List ℕ) (h : Header) (x : Extent) (cut : Cut t co
       let size_is : size (body d) ≡ size e = ap size p.body_is in
       let fits : Fits d = record {
         numbered = omega (arith, p.number_is, at.number, at.headed.number);
-        few = omega (arith, many, at.formals, fewer at.headed.kind, at.headed.formals);
+        few = omega (arith, many, at.formals, few_formals at.headed.kind, at.headed.formals);
         named = subst AreNames (sym p.formals_are) (valid_names xs (valid_front (map Formal xs) (encode e) valid));
         ranged = subst InRange (sym p.body_is) (valid_ranged e (valid_back (map Formal xs) (encode e) valid));
         sized = omega (arith, many, size_is, encode_size e, exp.past, few);
@@ -158,6 +142,6 @@ module _ (t codes operands : List ℕ) (h : Header) (x : Extent) (cut : Cut t co
   pub decoded : AllRight codes operands h.formals → Decoded t h x
   decoded all =
       let ns = names_from codes operands h.formals h.formals 0 (omega arith) (λ k lt. all.each k (omega (arith, all.enough))) in
-      let kind : at.headed.kind ≡ h.kind = same_kind _ _ (at.headed.kind_is ∙ sym at.kind) in
+      let kind : at.headed.kind ≡ h.kind = one_kind _ _ (at.headed.kind_is ∙ sym at.kind) in
       let most : length ns.names ≤ most_formals h.kind = omega (arith, ns.many, at.formals, at.headed.formals, ap most_formals kind) in
       join ns _ (parts h.kind h.number ns.names exp.e most)

@@ -1,31 +1,25 @@
 -- A table has one answer only.
 use Rattle.std.proofs.Common.{◌≡◌, ℕ, ◌<◌, List, Ok, Err, Result, sym, refl, ap, ◌∙◌, subst, arith}
-use native.Mathlib.Decide.{dec_lt}
 use Rattle.language.specs.Tree.{Definition, formals}
 use Rattle.language.specs.Limits.{Distinct}
 use Rattle.format.specs.declared.refusal.Refusal.{Refusal}
 use Rattle.format.specs.declared.refusal.Refusal.TheVariants.{Cell}
 use Rattle.format.specs.Refusals.{Told, told}
+use Rattle.format.specs.Layout.{codes_in, operands_in}
 use Rattle.format.specs.Cells.{header_of}
+use Rattle.format.proofs.Headers.{only_first}
 use Rattle.translator.specs.declared.table.Table.{Table}
-use Rattle.translator.specs.Tables.{FirstWrong, wrong, missing, IsTable}
+use Rattle.translator.specs.Tables.{formals_in, FirstWrong, wrong, missing, IsTable}
 use Rattle.translator.specs.Verdict.{Refused, SIZE, HEAD, CELL, SHAPE, TWICE, NEST, Verdict, Only, Answered}
 use Rattle.translator.proofs.Facts.{one_definition}
 use Rattle.translator.proofs.Verdicts.{not_both}
 
 module _ (codes operands : List ℕ) (n : ℕ) where
-  not_later : {i j : ℕ} → FirstWrong codes operands n i → FirstWrong codes operands n j → i < j → ⊥
-  not_later (wrong within before here) (wrong within' before' here') lt = here (before' _ lt)
-  not_later (wrong within before here) (missing at_end before' few) lt = here (before' _ lt)
-  not_later (missing at_end before few) (wrong within' before' here') lt = omega arith
-  not_later (missing at_end before few) (missing at_end' before' few') lt = omega arith
-
-  one_wrong : {i j : ℕ} → FirstWrong codes operands n i → FirstWrong codes operands n j → i ≡ j
-  one_wrong {i} {j} x y =
-      elim (dec_lt i j) [
-        | yes lt ↦ absurd (not_later x y lt)
-        | no ge ↦ elim (dec_lt j i) [ yes lt ↦ absurd (not_later y x lt) | no le ↦ omega arith ]
-      ]
+  not_later : (i j : ℕ) → FirstWrong codes operands n i → FirstWrong codes operands n j → i < j → ⊥
+  not_later i j (wrong within before here) (wrong within' before' here') lt = here (before' _ lt)
+  not_later i j (wrong within before here) (missing at_end before' few) lt = here (before' _ lt)
+  not_later i j (missing at_end before few) (wrong within' before' here') lt = omega arith
+  not_later i j (missing at_end before few) (missing at_end' before' few') lt = omega arith
 
 module _ (t : List ℕ) where
   distinct_too : {c d : Definition} → IsTable t c → IsTable t d → Distinct (formals c) → Distinct (formals d)
@@ -46,7 +40,7 @@ module _ (t : List ℕ) where
   one_refusal (HEAD s z) (NEST p x u y) = absurd (z p.head)
   one_refusal (CELL s h w) (SIZE y) = absurd (y s)
   one_refusal (CELL s h w) (HEAD s' y) = absurd (y h)
-  one_refusal (CELL s h w) (CELL s' h' v) = ap (λ k. told (Cell k)) (one_wrong _ _ _ w v)
+  one_refusal (CELL s h w) (CELL s' h' v) = ap (λ k. told (Cell k)) (only_first (FirstWrong (codes_in t) (operands_in t) (formals_in t)) (not_later (codes_in t) (operands_in t) (formals_in t)) _ _ w v)
   one_refusal (CELL s h w) (SHAPE p y) = absurd (not_both w p.right)
   one_refusal (CELL s h w) (TWICE p x y) = absurd (not_both w p.right)
   one_refusal (CELL s h w) (NEST p x u y) = absurd (not_both w p.right)

@@ -22,7 +22,7 @@ use Rattle.translator.specs.Reading.{CellsAt, ExpAt, NoExp, Repeated, NoneRepeat
 use Rattle.translator.proofs.Places.{operand_value, cells_front, cells_back, formals_nth}
 use Rattle.translator.proofs.Steps.{one_exp}
 use Rattle.translator.proofs.Facts.{is_table, facts, one_definition}
-use Rattle.translator.proofs.Decoded.{Decoded, sizes}
+use Rattle.translator.proofs.Decoded.{Decoded}
 
 passes : {t : List ℕ} {d : Definition} → IsTable t d → Passed t
 passes x = let f = facts x in record { sized = f.sized; head = f.head; right = f.right }
@@ -38,12 +38,6 @@ not_both (wrong within before here) all = here (all.each _ within)
 not_both (missing at_end before few) all = omega (arith, all.enough)
 
 module _ (t codes operands : List ℕ) (cut : Cut t codes operands) where
-  pub some_sized : 0 < length codes → length codes ≤ 2048 → Sized t
-  some_sized some few = let s = sizes t codes operands cut in record { whole = cut.whole; some = omega (arith, s.0); few = omega (arith, s.0) }
-
-  pub sized_some : Sized t → (0 < length codes) × (length codes ≤ 2048)
-  sized_some z = let s = sizes t codes operands cut in (omega (arith, s.0, z.some), omega (arith, s.0, z.few))
-
   module _ (h : Header) (at : HeaderAt t h) where
     all_in : AllRight codes operands h.formals → AllRight (codes_in t) (operands_in t) (formals_in t)
     all_in x = subst (λ n. AllRight (codes_in t) (operands_in t) n) at.formals (subst (λ l. AllRight (codes_in t) l h.formals) cut.operands_are (subst (λ l. AllRight l operands h.formals) cut.codes_are x))
