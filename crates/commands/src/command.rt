@@ -7,7 +7,7 @@ use crate::line::split_word;
 use std::alloc::Global;
 use std::error::Error;
 
-#[derive(Drop, Debug)]
+#[derive(PartialEq, Eq, Debug, Drop)]
 pub enum Command {
     // the bytes of a table to check
     Table(Vec<u8>),

@@ -12,7 +12,7 @@ pub const MAX_INSTRS: usize = 6144;
 
 pub const MAX_HEIGHT: u16 = 2048;
 
-#[derive(Clone, Copy)]
+#[derive(Clone, Copy, PartialEq, Eq, Debug)]
 pub struct Image<'a> {
     pub header: Header,
     instrs: Layout<'a>,

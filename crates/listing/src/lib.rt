@@ -19,7 +19,7 @@ pub struct Line {
     pub height: Option<u16>,
 }
 
-#[derive(Drop)]
+#[derive(PartialEq, Eq, Debug, Drop)]
 pub struct Listing {
     lines: Vec<Line>,
 }

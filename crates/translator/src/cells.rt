@@ -6,7 +6,7 @@ use format::cell::Cell;
 use format::layout::Layout;
 use language::MAX_CELLS;
 
-#[derive(Clone, Copy)]
+#[derive(Clone, Copy, PartialEq, Eq, Debug)]
 pub struct Cells<'a> {
     rows: Layout<'a>,
     ghost few: { length (codes_of rows) ≤ 2048 },

@@ -7,7 +7,7 @@ use format::refusal::Refusal;
 use language::MAX_DEPTH;
 
 // An accepted table.
-#[derive(Clone, Copy)]
+#[derive(Clone, Copy, PartialEq, Eq, Debug)]
 pub struct Table<'a> {
     pub header: Header,
     pub cells: Cells<'a>,
