@@ -4,7 +4,7 @@ use Rattle.std.proofs.lemmas.List.{map-append}
 use Rattle.language.specs.Tree.{Exp, LITERAL, VAR, SET, IF, WHILE, BEGIN, APPLY, Exps, nil, cons, Definition, VAL, DEFINE, body, count}
 use Rattle.language.specs.Names.{place}
 use Rattle.format.specs.declared.instr.Instr.{Instr}
-use Rattle.format.specs.declared.instr.Instr.TheVariants.{Push, LoadF, LoadG, StoreF, StoreG, Pop, Jump, Jz, Find, Call, Ret, Bind}
+use Rattle.format.specs.declared.instr.Instr.TheVariants.{Jump, Jz, Ret, Bind}
 use Rattle.translator.specs.Weight.{weight, together, weights}
 use Rattle.translation.specs.Translation.{load, store, code, sequence, rest, arguments, instrs}
 use Rattle.translation.specs.Laws.{moved, JumpsIn, AllJumpIn, Relocates, Laws}
@@ -47,13 +47,8 @@ length-instrs (DEFINE f xs e) = length-append (code xs e 0) (Ret ∷ []) ∙ ome
 
 mutual
   pub weight_some : (e : Exp) → 0 < weight e
-  weight_some (LITERAL v) = omega arith
-  weight_some (VAR x) = omega arith
-  weight_some (SET x e) = omega arith
-  weight_some (IF c a b) = omega arith
-  weight_some (WHILE c b) = omega arith
   weight_some (BEGIN es) = together_some es
-  weight_some (APPLY f es) = omega arith
+  weight_some _ = omega arith
 
   together_some : (es : Exps) → 0 < together es
   together_some nil = omega arith
@@ -135,16 +130,7 @@ record Inside (low high : ℕ) (is : List Instr) : Type 0 where
 jumps_wider : (x : Instr) (l h m n : ℕ) → m ≤ l → h ≤ n → JumpsIn l h x → JumpsIn m n x
 jumps_wider (Jump t) l h m n low high a = (omega (arith, a.0), omega (arith, a.1))
 jumps_wider (Jz t) l h m n low high a = (omega (arith, a.0), omega (arith, a.1))
-jumps_wider (Push v) l h m n low high a = tt
-jumps_wider (LoadF i) l h m n low high a = tt
-jumps_wider (LoadG x) l h m n low high a = tt
-jumps_wider (StoreF i) l h m n low high a = tt
-jumps_wider (StoreG x) l h m n low high a = tt
-jumps_wider Pop l h m n low high a = tt
-jumps_wider (Find f) l h m n low high a = tt
-jumps_wider (Call f k) l h m n low high a = tt
-jumps_wider Ret l h m n low high a = tt
-jumps_wider (Bind x) l h m n low high a = tt
+jumps_wider _ l h m n low high a = tt
 
 all_wider : (is : List Instr) (l h m n : ℕ) → m ≤ l → h ≤ n → AllJumpIn l h is → AllJumpIn m n is
 all_wider [] l h m n low high a = tt

@@ -1,5 +1,5 @@
 -- What each answer of `translate` rests on, and that there is one only.
-use Rattle.std.proofs.Common.{◌≡◌, ℕ, ◌+◌, ◌*◌, ◌<◌, ◌≤◌, List, ◌++◌, map, length, drop, Ok, Err, Result, sym, refl, ap, ◌∙◌, subst, arith, length-append, length-drop, length-take}
+use Rattle.std.proofs.Common.{◌≡◌, ℕ, ◌+◌, ◌*◌, ◌<◌, ◌≤◌, List, ◌++◌, map, length, drop, Ok, Err, Result, sym, refl, ap, ◌∙◌, subst, arith, length-append}
 use Rattle.std.proofs.lemmas.List.{length-map}
 use Rattle.language.specs.Tree.{Definition, body, formals}
 use Rattle.language.specs.Limits.{Within}
@@ -7,12 +7,12 @@ use Rattle.format.specs.declared.cell.Cell.TheVariants.{Formal}
 use Rattle.format.specs.declared.refusal.Refusal.{Refusal}
 use Rattle.format.specs.declared.refusal.Refusal.TheVariants.{Short}
 use Rattle.format.specs.Refusals.{Told, told}
-use Rattle.format.specs.Layout.{operand_bytes, count_in, codes_in, operands_in}
-use Rattle.format.specs.Rows.{codes_of, operands_of}
+use Rattle.format.specs.Layout.{operand_bytes, operands_in}
+use Rattle.translator.specs.InCells.{cell_codes, cell_operands}
 use Rattle.format.specs.Cells.{encode, cells}
 use Rattle.format.specs.Instrs.{code as code_of, operand}
 use Rattle.translator.specs.declared.table.Table.{Table}
-use Rattle.translator.specs.Reading.{Parallel, CellsAt}
+use Rattle.translator.specs.Reading.{CellsAt}
 use Rattle.translator.specs.Verdict.{Refused, NoTable, Accepted}
 use Rattle.translation.specs.Translation.{instrs, image}
 use Rattle.translation.specs.Imaging.{Holds, HoldsSome, Imaged}
@@ -23,7 +23,7 @@ use Rattle.format.proofs.Bytes.{length-operands}
 use Rattle.translator.proofs.Facts.{is_table, facts, one_definition}
 use Rattle.translator.proofs.Only.{one_refusal}
 
-pub length-image : (d : Definition) → length (image d) ≡ 8 + 5 * length (instrs d)
+length-image : (d : Definition) → length (image d) ≡ 8 + 5 * length (instrs d)
 length-image d =
     let codes = map code_of (instrs d) in
     let operands = operand_bytes (map operand (instrs d)) in
@@ -32,7 +32,7 @@ length-image d =
 length-cells : (d : Definition) → length (cells d) ≡ length (formals d) + length (encode (body d))
 length-cells d = length-append (map Formal (formals d)) (encode (body d)) ∙ omega (arith, length-map (formals d) Formal)
 
-pub sizes_of : (d : Definition) → Within d → Sizes d
+sizes_of : (d : Definition) → Within d → Sizes d
 sizes_of d w =
     let many = length-instrs d in
     let size_is = encode_size (body d) in
@@ -49,25 +49,17 @@ module _ (t : List ℕ) (r : Table) (a : Accepted t r) where
   abbrev d : Definition
   d = a.definition
 
-  parallel : Parallel (codes_of r.cells) (operands_of r.cells)
-  parallel =
-      let s = (facts (is_table a.within a.is)).sized in
-      let codes : length (codes_in t) ≡ count_in t = length-take (count_in t) (drop 8 t) ∙ omega (arith, length-drop 8 t, s.whole.long) in
-      let operands : length (operands_in t) ≡ 4 * count_in t = length-drop (8 + count_in t) t ∙ omega (arith, s.whole.long) in
-      record { few = omega (arith, ap length a.codes, codes, s.few); long = omega (arith, ap length a.codes, ap length a.operands, codes, operands) }
-
   counted : r.count ≡ length (instrs d)
   counted = a.counted ∙ sym (length-instrs d)
 
-  stand : CellsAt (codes_of r.cells) (operands_of r.cells) 0 (cells d)
+  stand : CellsAt (cell_codes r.cells) (cell_operands r.cells) 0 (cells d)
   stand =
-      subst (λ l. CellsAt (codes_of r.cells) l 0 (cells d)) (sym a.operands) (subst (λ l. CellsAt l (operands_in t) 0 (cells d)) (sym a.codes) (facts (is_table a.within a.is)).stand)
+      subst (λ l. CellsAt (cell_codes r.cells) l 0 (cells d)) (sym a.operands) (subst (λ l. CellsAt l (operands_in t) 0 (cells d)) (sym a.codes) (facts (is_table a.within a.is)).stand)
 
   holds : Holds r d
   holds =
       record {
         header = a.header;
-        parallel = parallel;
         few = a.within.fits.few;
         stand = stand;
         counted = counted;

@@ -1,178 +1,170 @@
 -- What stands in memory after writes one after the other.
-use Rattle.std.proofs.Common.{◌≡◌, ℕ, suc, ◌+◌, ◌-◌, ◌*◌, ◌<◌, ◌≤◌, List, [], ◌∷◌, ◌++◌, map, length, take, drop, set, ℤ, sym, refl, ap, ◌∙◌, append_assoc, arith, length-append, length-set}
+use Rattle.std.proofs.Common.{◌≡◌, ℕ, suc, ◌+◌, ◌-◌, ◌*◌, ◌<◌, ◌≤◌, List, [], ◌∷◌, ◌++◌, map, length, take, drop, set, ℤ, sym, refl, ap, ◌∙◌, subst, append_assoc, arith, length-append, length-set}
 use Rattle.std.proofs.lemmas.List.{map-append, length-map, set_comm, drop-drop}
 use Rattle.std.proofs.lemmas.List.Edits.{sets, sets-eq}
 use Rattle.format.specs.declared.instr.Instr.{Instr}
 use Rattle.format.specs.Layout.{bytes4, operand_bytes}
 use Rattle.format.specs.Instrs.{code, operand}
 use Rattle.format.proofs.Bytes.{length-operands}
-use Rattle.translation.specs.Emission.{over, written}
+use Rattle.translation.specs.declared.memory.Memory.{Memory}
+use Rattle.translation.specs.declared.memory.Place.{Place}
+use Rattle.translation.specs.Writing.{written, Kept, Wrote, Emitted, PastCell, PastInstr}
 
-pub over_length : (out : List ℕ) (at : ℕ) (ys : List ℕ) → length (over out at ys) ≡ length out
-unfolding over
-over_length out at [] = refl
-over_length out at (y ∷ ys) = over_length (set out at y) (suc at) ys ∙ length-set out at y
+sets_append : (out : List ℕ) (at : ℕ) (xs ys : List ℕ) (to : ℕ) → to ≡ at + length xs → sets out at (xs ++ ys) ≡ sets (sets out at xs) to ys
+sets_append out at [] ys to h = ap (λ k. sets out k ys) (omega arith)
+sets_append out at (x ∷ xs) ys to h = sets_append (set out at x) (suc at) xs ys to (omega arith)
 
-pub over_append : (out : List ℕ) (at : ℕ) (xs ys : List ℕ) (to : ℕ) → to ≡ at + length xs → over out at (xs ++ ys) ≡ over (over out at xs) to ys
-unfolding over
-over_append out at [] ys to h = ap (λ k. over out k ys) (omega arith)
-over_append out at (x ∷ xs) ys to h = over_append (set out at x) (suc at) xs ys to (omega arith)
-
-over_set : (out : List ℕ) (i x to : ℕ) (ys : List ℕ) → i < to → over (set out i x) to ys ≡ set (over out to ys) i x
-unfolding over
-over_set out i x to [] h = refl
-over_set out i x to (y ∷ ys) h =
-    ap (λ l. over l (suc to) ys) (set_comm out i to x y (λ e. omega arith)) ∙ over_set (set out to y) i x (suc to) ys (omega arith)
+sets_set : (out : List ℕ) (i x to : ℕ) (ys : List ℕ) → i < to → sets (set out i x) to ys ≡ set (sets out to ys) i x
+sets_set out i x to [] h = refl
+sets_set out i x to (y ∷ ys) h =
+    ap (λ l. sets l (suc to) ys) (set_comm out i to x y (λ e. omega arith)) ∙ sets_set (set out to y) i x (suc to) ys (omega arith)
 
 -- writes that do not meet come in either order
-pub over_comm : (out : List ℕ) (at : ℕ) (xs : List ℕ) (to : ℕ) (ys : List ℕ) → at + length xs ≤ to → over (over out at xs) to ys ≡ over (over out to ys) at xs
-unfolding over
-over_comm out at [] to ys h = refl
-over_comm out at (x ∷ xs) to ys h =
-    over_comm (set out at x) (suc at) xs to ys (omega arith) ∙ ap (λ l. over l (suc at) xs) (over_set out at x to ys (omega arith))
+sets_comm : (out : List ℕ) (at : ℕ) (xs : List ℕ) (to : ℕ) (ys : List ℕ) → at + length xs ≤ to → sets (sets out at xs) to ys ≡ sets (sets out to ys) at xs
+sets_comm out at [] to ys h = refl
+sets_comm out at (x ∷ xs) to ys h =
+    sets_comm (set out at x) (suc at) xs to ys (omega arith) ∙ ap (λ l. sets l (suc at) xs) (sets_set out at x to ys (omega arith))
 
-over_sets : (out : List ℕ) (at : ℕ) (ys : List ℕ) → over out at ys ≡ sets out at ys
-unfolding over
-over_sets out at [] = refl
-over_sets out at (y ∷ ys) = over_sets (set out at y) (suc at) ys
-
-pub over_is : (out : List ℕ) (at : ℕ) (ys : List ℕ) → at + length ys ≤ length out → over out at ys ≡ take at out ++ (ys ++ drop (at + length ys) out)
-over_is out at ys h = over_sets out at ys ∙ sets-eq ys out at h ∙ append_assoc (take at out) ys (drop (at + length ys) out)
+pub sets_is : (out : List ℕ) (at : ℕ) (ys : List ℕ) → at + length ys ≤ length out → sets out at ys ≡ take at out ++ (ys ++ drop (at + length ys) out)
+sets_is out at ys h = sets-eq ys out at h ∙ append_assoc (take at out) ys (drop (at + length ys) out)
 
 -- ---- instructions
 
-pub operands_append : (xs ys : List ℤ) → operand_bytes (xs ++ ys) ≡ operand_bytes xs ++ operand_bytes ys
+operands_append : (xs ys : List ℤ) → operand_bytes (xs ++ ys) ≡ operand_bytes xs ++ operand_bytes ys
 operands_append [] ys = refl
 operands_append (x ∷ xs) ys = ap (λ l. bytes4 x ++ l) (operands_append xs ys) ∙ sym (append_assoc (bytes4 x) (operand_bytes xs) (operand_bytes ys))
 
-written_codes : List Instr → List ℕ
-written_codes is = map code is
-
-written_operands : List Instr → List ℕ
-written_operands is = operand_bytes (map operand is)
-
-codes_long : (is : List Instr) → length (written_codes is) ≡ length is
-unfolding written_codes
-codes_long is = length-map is code
-
-operands_long : (is : List Instr) → length (written_operands is) ≡ 4 * length is
-unfolding written_operands
+operands_long : (is : List Instr) → length (operand_bytes (map operand is)) ≡ 4 * length is
 operands_long is = length-operands (map operand is) ∙ ap (λ k. 4 * k) (length-map is operand)
 
-written_is : (n : ℕ) (out : List ℕ) (p : ℕ) (is : List Instr) → written n out p is ≡ over (over out (8 + p) (written_codes is)) (8 + n + 4 * p) (written_operands is)
-unfolding written written_codes written_operands
+written_is : (n : ℕ) (out : List ℕ) (p : ℕ) (is : List Instr) → written n out p is ≡ sets (sets out (8 + p) (map code is)) (8 + n + 4 * p) (operand_bytes (map operand is))
+unfolding written
 written_is n out p is = refl
 
-pub written_length : (n : ℕ) (out : List ℕ) (p : ℕ) (is : List Instr) → length (written n out p is) ≡ length out
-written_length n out p is =
-    ap length (written_is n out p is) ∙ over_length (over out (8 + p) (written_codes is)) (8 + n + 4 * p) (written_operands is) ∙ over_length out (8 + p) (written_codes is)
+module _ (n : ℕ) (out : List ℕ) (p : ℕ) (xs : List Instr) (q : ℕ) (ys : List Instr) where
+  abbrev c : List ℕ
+  c = map code xs
 
-written_codes_append : (xs ys : List Instr) → written_codes (xs ++ ys) ≡ written_codes xs ++ written_codes ys
-unfolding written_codes
-written_codes_append xs ys = map-append code xs ys
+  abbrev d : List ℕ
+  d = map code ys
 
-written_operands_append : (xs ys : List Instr) → written_operands (xs ++ ys) ≡ written_operands xs ++ written_operands ys
-unfolding written_operands
-written_operands_append xs ys = ap operand_bytes (map-append operand xs ys) ∙ operands_append (map operand xs) (map operand ys)
+  abbrev o : List ℕ
+  o = operand_bytes (map operand xs)
 
--- one piece of code after the other
-pub written_append : (n : ℕ) (out : List ℕ) (p : ℕ) (xs ys : List Instr) (q : ℕ) → q ≡ p + length xs → q + length ys ≤ n → written n out p (xs ++ ys) ≡ written n (written n out p xs) q ys
-written_append n out p xs ys q h room =
-    let c = written_codes xs in
-    let d = written_codes ys in
-    let o = written_operands xs in
-    let u = written_operands ys in
-    let lc : length c ≡ length xs = codes_long xs in
-    let ld : length d ≡ length ys = codes_long ys in
-    let lo : length o ≡ 4 * length xs = operands_long xs in
-    let a = over out (8 + p) c in
-    written_is n out p (xs ++ ys)
-    ∙ (λ i. over (over out (8 + p) (written_codes_append xs ys i)) (8 + n + 4 * p) (written_operands_append xs ys i))
-    ∙ ap (λ l. over l (8 + n + 4 * p) (o ++ u)) (over_append out (8 + p) c d (8 + q) (omega arith))
-    ∙ over_append (over a (8 + q) d) (8 + n + 4 * p) o u (8 + n + 4 * q) (omega arith)
-    ∙ ap (λ l. over l (8 + n + 4 * q) u) (over_comm a (8 + q) d (8 + n + 4 * p) o (omega arith))
-    ∙ sym (written_is n (written n out p xs) q ys ∙ ap (λ l. over (over l (8 + q) d) (8 + n + 4 * q) u) (written_is n out p xs))
+  abbrev u : List ℕ
+  u = operand_bytes (map operand ys)
 
--- a gap filled afterwards
-pub written_comm : (n : ℕ) (out : List ℕ) (p : ℕ) (xs : List Instr) (q : ℕ) (ys : List Instr) → p + length xs ≤ q → q + length ys ≤ n → written n (written n out p xs) q ys ≡ written n (written n out q ys) p xs
-written_comm n out p xs q ys h room =
-    let c = written_codes xs in
-    let d = written_codes ys in
-    let o = written_operands xs in
-    let u = written_operands ys in
-    let lc : length c ≡ length xs = codes_long xs in
-    let ld : length d ≡ length ys = codes_long ys in
-    let lo : length o ≡ 4 * length xs = operands_long xs in
-    let a = over out (8 + p) c in
-    let b = over out (8 + q) d in
-    written_is n (written n out p xs) q ys
-    ∙ ap (λ l. over (over l (8 + q) d) (8 + n + 4 * q) u) (written_is n out p xs)
-    ∙ ap (λ l. over l (8 + n + 4 * q) u) (sym (over_comm a (8 + q) d (8 + n + 4 * p) o (omega arith)))
-    ∙ ap (λ l. over (over l (8 + n + 4 * p) o) (8 + n + 4 * q) u) (over_comm out (8 + p) c (8 + q) d (omega arith))
-    ∙ over_comm (over b (8 + p) c) (8 + n + 4 * p) o (8 + n + 4 * q) u (omega arith)
-    ∙ ap (λ l. over l (8 + n + 4 * p) o) (over_comm b (8 + p) c (8 + n + 4 * q) u (omega arith))
-    ∙ sym (written_is n (written n out q ys) p xs ∙ ap (λ l. over (over l (8 + p) c) (8 + n + 4 * p) o) (written_is n out q ys))
+  -- one piece of code after the other
+  written_append : q ≡ p + length xs → q + length ys ≤ n → written n out p (xs ++ ys) ≡ written n (written n out p xs) q ys
+  written_append h room =
+      let lc : length c ≡ length xs = length-map xs code in
+      let ld : length d ≡ length ys = length-map ys code in
+      let lo : length o ≡ 4 * length xs = operands_long xs in
+      let a = sets out (8 + p) c in
+      let all : operand_bytes (map operand (xs ++ ys)) ≡ o ++ u = ap operand_bytes (map-append operand xs ys) ∙ operands_append (map operand xs) (map operand ys) in
+      written_is n out p (xs ++ ys)
+      ∙ (λ i. sets (sets out (8 + p) (map-append code xs ys i)) (8 + n + 4 * p) (all i))
+      ∙ ap (λ l. sets l (8 + n + 4 * p) (o ++ u)) (sets_append out (8 + p) c d (8 + q) (omega arith))
+      ∙ sets_append (sets a (8 + q) d) (8 + n + 4 * p) o u (8 + n + 4 * q) (omega arith)
+      ∙ ap (λ l. sets l (8 + n + 4 * q) u) (sets_comm a (8 + q) d (8 + n + 4 * p) o (omega arith))
+      ∙ sym (written_is n (written n out p xs) q ys ∙ ap (λ l. sets (sets l (8 + q) d) (8 + n + 4 * q) u) (written_is n out p xs))
+
+  -- a gap filled afterwards
+  written_comm : p + length xs ≤ q → q + length ys ≤ n → written n (written n out p xs) q ys ≡ written n (written n out q ys) p xs
+  written_comm h room =
+      let lc : length c ≡ length xs = length-map xs code in
+      let ld : length d ≡ length ys = length-map ys code in
+      let lo : length o ≡ 4 * length xs = operands_long xs in
+      let a = sets out (8 + p) c in
+      let b = sets out (8 + q) d in
+      written_is n (written n out p xs) q ys
+      ∙ ap (λ l. sets (sets l (8 + q) d) (8 + n + 4 * q) u) (written_is n out p xs)
+      ∙ ap (λ l. sets l (8 + n + 4 * q) u) (sym (sets_comm a (8 + q) d (8 + n + 4 * p) o (omega arith)))
+      ∙ ap (λ l. sets (sets l (8 + n + 4 * p) o) (8 + n + 4 * q) u) (sets_comm out (8 + p) c (8 + q) d (omega arith))
+      ∙ sets_comm (sets b (8 + p) c) (8 + n + 4 * p) o (8 + n + 4 * q) u (omega arith)
+      ∙ ap (λ l. sets l (8 + n + 4 * p) o) (sets_comm b (8 + p) c (8 + n + 4 * q) u (omega arith))
+      ∙ sym (written_is n (written n out q ys) p xs ∙ ap (λ l. sets (sets l (8 + p) c) (8 + n + 4 * p) o) (written_is n out q ys))
 
 -- the whole of an image, after its header
-pub written_whole : (n : ℕ) (out head : List ℕ) (is : List Instr) → length head ≡ 8 → length is ≡ n → 8 + 5 * n ≤ length out → written n (over out 0 head) 0 is ≡ (head ++ (map code is ++ operand_bytes (map operand is))) ++ drop (8 + 5 * n) out
-unfolding written_codes written_operands
+pub written_whole : (n : ℕ) (out head : List ℕ) (is : List Instr) → length head ≡ 8 → length is ≡ n → 8 + 5 * n ≤ length out → written n (sets out 0 head) 0 is ≡ (head ++ (map code is ++ operand_bytes (map operand is))) ++ drop (8 + 5 * n) out
 written_whole n out head is eight long room =
-    let lc : length (written_codes is) ≡ n = codes_long is ∙ long in
-    let lo : length (written_operands is) ≡ 4 * n = operands_long is ∙ ap (λ k. 4 * k) long in
-    let ys = head ++ (written_codes is ++ written_operands is) in
-    let total : length ys ≡ 8 + 5 * n = length-append head (written_codes is ++ written_operands is) ∙ ap (λ k. length head + k) (length-append (written_codes is) (written_operands is)) ∙ omega arith in
-    written_is n (over out 0 head) 0 is
-    ∙ ap (λ k. over (over (over out 0 head) 8 (written_codes is)) k (written_operands is)) (let z : 8 + n + 4 * 0 ≡ 8 + n = omega arith in z)
-    ∙ sym (over_append (over out 0 head) 8 (written_codes is) (written_operands is) (8 + n) (omega arith))
-    ∙ sym (over_append out 0 head (written_codes is ++ written_operands is) 8 (omega arith))
-    ∙ over_is out 0 ys (omega arith)
+    let cs = map code is in
+    let os = operand_bytes (map operand is) in
+    let lc : length cs ≡ n = length-map is code ∙ long in
+    let lo : length os ≡ 4 * n = operands_long is ∙ ap (λ k. 4 * k) long in
+    let ys = head ++ (cs ++ os) in
+    let total : length ys ≡ 8 + 5 * n = simp length-append (omega arith) in
+    written_is n (sets out 0 head) 0 is
+    ∙ ap (λ k. sets (sets (sets out 0 head) 8 cs) k os) (omega arith)
+    ∙ sym (sets_append (sets out 0 head) 8 cs os (8 + n) (omega arith))
+    ∙ sym (sets_append out 0 head (cs ++ os) 8 (omega arith))
+    ∙ sets_is out 0 ys (omega arith)
     ∙ ap (λ k. ys ++ drop k out) (let z : 0 + length ys ≡ 8 + 5 * n = omega (arith, total) in z)
 
 -- one instruction
 pub put_one : (n : ℕ) (out : List ℕ) (p : ℕ) (x : Instr) (c : ℕ) (ys : List ℕ) → c ≡ code x → ys ≡ bytes4 (operand x) → p < n → 8 + 5 * n ≤ length out → take (8 + n + 4 * p) (set out (8 + p) c) ++ (ys ++ drop (8 + n + 4 * p + 4 - (8 + n + 4 * p)) (drop (8 + n + 4 * p) (set out (8 + p) c))) ≡ written n out p (x ∷ [])
-unfolding written over
+unfolding written
 put_one n out p x c ys code_is bytes_are within long =
     let at = 8 + n + 4 * p in
     let base = set out (8 + p) c in
     let past : drop (at + 4 - at) (drop at base) ≡ drop (at + 4) base = drop-drop (at + 4 - at) at base ∙ ap (λ k. drop k base) (omega arith) in
     (λ i. take at base ++ (bytes_are i ++ past i))
-    ∙ sym (over_is base at (bytes4 (operand x)) (omega (arith, length-set out (8 + p) c)))
-    ∙ ap (λ k. over (set out (8 + p) k) at (bytes4 (operand x))) code_is
+    ∙ sym (sets_is base at (bytes4 (operand x)) (omega (arith, length-set out (8 + p) c)))
+    ∙ ap (λ k. sets (set out (8 + p) k) at (bytes4 (operand x))) code_is
 
-module _ (n : ℕ) (out : List ℕ) (p : ℕ) where
-  pub written_more : (x : Instr) (ys : List Instr) (q : ℕ) → q ≡ p + 1 → q + length ys ≤ n → written n out p (x ∷ ys) ≡ written n (written n out p (x ∷ [])) q ys
-  written_more x ys q h room = written_append n out p (x ∷ []) ys q h room
+-- ---- the memory of an image
 
-  -- an earlier gap filled after what follows it
-  back : (x : Instr) (q : ℕ) (ys : List Instr) → p < q → q + length ys ≤ n → written n (written n out q ys) p (x ∷ []) ≡ written n (written n out p (x ∷ [])) q ys
-  back x q ys h room = sym (written_comm n out p (x ∷ []) q ys (omega arith) room)
+module _ {m m₁ m₂ : Memory} where
+  pub kept_both : Kept m m₁ → Kept m₁ m₂ → Kept m m₂
+  kept_both k l = record { same_bytes = l.same_bytes ∙ k.same_bytes; same_count = l.same_count ∙ k.same_count }
 
--- three pieces of code, and then the two instructions between them
-pub written_three : (n : ℕ) (out : List ℕ) (p : ℕ) (A B C : List Instr) (x y : Instr) (q r : ℕ) → q ≡ p + length A → r ≡ q + 1 + length B → r + 1 + length C ≤ n → written n (written n (written n (written n (written n out p A) (q + 1) B) (r + 1) C) q (x ∷ [])) r (y ∷ []) ≡ written n out p (A ++ (x ∷ (B ++ (y ∷ C))))
-written_three n out p A B C x y q r hq hr room =
-    let a = written n out p A in
-    let ax = written n a q (x ∷ []) in
-    let ab = written n ax (q + 1) B in
-    let l₁ : length (y ∷ C) ≡ length C + 1 = omega arith in
-    let l₂ : length (B ++ (y ∷ C)) ≡ length B + (length C + 1) = length-append B (y ∷ C) ∙ omega arith in
-    ap (λ l. written n l r (y ∷ [])) (back n (written n a (q + 1) B) q x (r + 1) C (omega arith) room)
-    ∙ ap (λ l. written n (written n l (r + 1) C) r (y ∷ [])) (back n a q x (q + 1) B (omega arith) (omega arith))
-    ∙ back n ab r y (r + 1) C (omega arith) room
-    ∙ sym (written_append n out p A (x ∷ (B ++ (y ∷ C))) q hq (omega arith)
-    ∙ written_more n a q x (B ++ (y ∷ C)) (q + 1) refl (omega arith)
-    ∙ written_append n ax (q + 1) B (y ∷ C) r hr (omega arith)
-    ∙ written_more n ab r y C (r + 1) refl room)
+  pub wrote_both : {p q : ℕ} {xs ys : List Instr} → Wrote m m₁ p xs → Wrote m₁ m₂ q ys → q ≡ p + length xs → q + length ys ≤ m.count → Wrote m m₂ p (xs ++ ys)
+  wrote_both {p} {q} {xs} {ys} w v h room =
+      record {
+        kept = kept_both w.kept v.kept;
+        bytes_are = v.bytes_are ∙ (λ i. written (w.kept.same_count i) (w.bytes_are i) q ys) ∙ sym (written_append m.count m.bytes.now p xs q ys h room);
+      }
 
--- two pieces, the instruction between them, and three after them
-pub written_two : (n : ℕ) (out : List ℕ) (p : ℕ) (A B : List Instr) (x u v w : Instr) (q r : ℕ) → q ≡ p + length A → r ≡ q + 1 + length B → r + 3 ≤ n → written n (written n (written n (written n (written n (written n out p A) (q + 1) B) q (x ∷ [])) r (u ∷ [])) (r + 1) (v ∷ [])) (r + 2) (w ∷ []) ≡ written n out p (A ++ (x ∷ (B ++ (u ∷ v ∷ w ∷ []))))
-written_two n out p A B x u v w q r hq hr room =
-    let a = written n out p A in
-    let ax = written n a q (x ∷ []) in
-    let ab = written n ax (q + 1) B in
-    let l : length (B ++ (u ∷ v ∷ w ∷ [])) ≡ length B + 3 = length-append B (u ∷ v ∷ w ∷ []) in
-    ap (λ l. written n (written n (written n l r (u ∷ [])) (r + 1) (v ∷ [])) (r + 2) (w ∷ [])) (back n a q x (q + 1) B (omega arith) (omega arith))
-    ∙ sym (written_append n out p A (x ∷ (B ++ (u ∷ v ∷ w ∷ []))) q hq (omega arith)
-    ∙ written_more n a q x (B ++ (u ∷ v ∷ w ∷ [])) (q + 1) refl (omega arith)
-    ∙ written_append n ax (q + 1) B (u ∷ v ∷ w ∷ []) r hr (omega arith)
-    ∙ written_more n ab r u (v ∷ w ∷ []) (r + 1) refl (omega arith)
-    ∙ written_more n (written n ab r (u ∷ [])) (r + 1) v (w ∷ []) (r + 2) (omega arith) (omega arith))
+  -- an instruction written after those that follow it
+  wrote_back : {p q : ℕ} {x : Instr} {ys : List Instr} → Wrote m m₁ q ys → Wrote m₁ m₂ p (x ∷ []) → q ≡ p + 1 → q + length ys ≤ m.count → Wrote m m₂ p (x ∷ ys)
+  wrote_back {p} {q} {x} {ys} w v h room =
+      let n = m.count in
+      let out = m.bytes.now in
+      record {
+        kept = kept_both w.kept v.kept;
+        bytes_are =
+            v.bytes_are ∙ (λ i. written (w.kept.same_count i) (w.bytes_are i) p (x ∷ []))
+            ∙ sym (written_comm n out p (x ∷ []) q ys (omega arith) room)
+            ∙ sym (written_append n out p (x ∷ []) q ys h room);
+      }
+
+  -- one piece of code after the other
+  pub both : {p q r : Place} {a b : ℕ} {xs ys : List Instr} → Emitted m m₁ p a xs q → Emitted m₁ m₂ q b ys r → r.«end» ≤ m.count → Emitted m m₂ p (a + b) (xs ++ ys) r
+  both {p} {q} {r} {a} {b} {xs} {ys} e f room =
+      record {
+        next_is = omega (arith, e.next_is, f.next_is);
+        end_is = omega (arith, e.end_is, f.end_is, length-append xs ys);
+        wrote = wrote_both e.wrote f.wrote e.end_is (omega (arith, f.end_is));
+      }
+
+-- two pieces of code, and then the instruction between them
+pub filled : {m m₁ m₂ m₃ : Memory} {p q q' r : Place} {a b : ℕ} {xs ys : List Instr} {x : Instr} → Emitted m m₁ p a xs q → PastInstr q q' → Emitted m₁ m₂ q' b ys r → Wrote m₂ m₃ q.«end» (x ∷ []) → r.«end» ≤ m.count → Emitted m m₃ p (a + b) (xs ++ (x ∷ ys)) r
+filled {m} {m₁} {m₂} {m₃} {p} {q} {q'} {r} {a} {b} {xs} {ys} {x} e past f w room =
+    both e record {
+      next_is = omega arith;
+      end_is = omega arith;
+      wrote = wrote_back f.wrote w past.end_is (omega arith);
+    } room
+
+-- a cell, and then more
+pub cell_then : {m m₁ : Memory} {p q r : Place} {k : ℕ} {is : List Instr} → PastCell p q → Emitted m m₁ q k is r → Emitted m m₁ p (k + 1) is r
+cell_then {m} {m₁} {p} {q} {r} {k} {is} past e =
+    record { next_is = omega arith; end_is = omega arith; wrote = subst (λ p. Wrote m m₁ p is) past.end_is e.wrote }
+
+-- the same, told in other words
+pub same : {m m₁ : Memory} {p r : Place} {j k : ℕ} {is js : List Instr} → Emitted m m₁ p k is r → k ≡ j → is ≡ js → Emitted m m₁ p j js r
+same {m} {m₁} {p} {r} {j} {k} {is} {js} e h is_same = subst (λ l. Emitted m m₁ p j l r) is_same (subst (λ i. Emitted m m₁ p i is r) h e)
+
+pub nothing : {m : Memory} {p : Place} → Emitted m m p 0 [] p
+unfolding written
+nothing {m} {p} = record { next_is = omega arith; end_is = omega arith; wrote = record { kept = record { same_bytes = refl; same_count = refl }; bytes_are = refl } }

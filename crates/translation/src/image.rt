@@ -1,18 +1,15 @@
 // The translation of a table into an image.
 ghost use Rattle.std.specs.Prelude.{◌≡◌, ◌+◌, ◌*◌, ◌≤◌, length};
-ghost use Rattle.format.specs.declared.cell.Cell.TheVariants.{Formal};
-ghost use Rattle.format.specs.Rows.{codes_of, operands_of};
-ghost use Rattle.translator.specs.Tables.{CellAt};
-ghost use Rattle.translator.specs.Reading.{Parallel};
 ghost use Rattle.translation.specs.Laws.{Laws};
-ghost use Rattle.translation.specs.Imaging.{FormalAt, FormalsTo, Named, HoldsSome, CodeWritten, Imaged, last_of};
+ghost use Rattle.translation.specs.Imaging.{HoldsSome, IsSource, CodeWritten, Imaged, last_of};
 ghost use Rattle.translation.specs.Outcome.{Translates};
 
-use crate::emit::{Source, cell_at, put};
-use format::cell::Cell;
+use crate::emit::Source;
+use crate::formals::Formals;
+use crate::memory::{Memory, Place};
 use format::header::{Header, Kind};
 use format::instr::Instr;
-use format::layout::{HEADER_LEN, Layout, ROW_LEN};
+use format::layout::{HEADER_LEN, ROW_LEN};
 use format::refusal::Refusal;
 use language::{MAX_FORMALS, Variable};
 use translator::{Table, accept};
@@ -41,27 +38,31 @@ fn write_image(table: &Table, out: &mut [u8])
         ..table.header
     };
     out[..HEADER_LEN].copy_from_slice(&header.to_bytes(table.count));
-    let mut names = [0; MAX_FORMALS as usize];
-    write_code(table, &mut names, out);
+    write_code(table, out);
 }
 
-// Writes the instructions. `names` is memory for the formals.
-fn write_code(table: &Table, names: &mut [Variable], out: &mut [u8])
+// Writes the instructions.
+fn write_code(table: &Table, out: &mut [u8])
     requires holds { HoldsSome table.now }
-    requires memory { length names.old ≡ 15 }
     requires room { 8 + 5 * table.now.count ≤ length out.old }
     ensures { CodeWritten table.now out.old out.new }
 {
-    let cells = table.cells;
-    let formals = table.header.formals as usize;
-    read_formals(&cells, &mut names[..formals]);
+    let formals = table.header.formals;
+    let mut names = [0; MAX_FORMALS as usize];
     let source = Source {
-        cells,
-        names: &names[..formals],
+        cells: table.cells,
+        formals: Formals::read(&table.cells, &mut names[..formals as usize]),
+    };
+    let start = Place {
+        next: formals as u16,
+        end: 0,
+    };
+    let mut memory = Memory {
+        bytes: out,
         count: table.count,
     };
-    let body = source.translate_expression(formals as u16, out, 0);
-    put(out, table.count, body.end, last_instr(table.header));
+    let body = source.translate_expression(&mut memory, start);
+    memory.put(body.end, last_instr(table.header));
 }
 
 // The instruction that ends an image.
@@ -72,27 +73,4 @@ fn last_instr(header: Header) -> Instr
         Kind::Function => Instr::Ret,
         Kind::Variable => Instr::Bind(header.number),
     }
-}
-
-// The variables of the first cells, which are FORMALs, as many as `names` holds.
-fn read_formals(cells: &Layout, names: &mut [Variable])
-    requires parallel { Parallel (codes_of cells.now) (operands_of cells.now) }
-    requires formals { FormalsTo (codes_of cells.now) (operands_of cells.now) (length names.old) }
-    ensures { Named (codes_of cells.now) (operands_of cells.now) (length names.old) names.new }
-{
-    let count = names.len();
-    for i in 0..count {
-        names[i] = formal_at(cells, i as u16);
-    }
-}
-
-fn formal_at(cells: &Layout, i: u16) -> Variable
-    requires parallel { Parallel (codes_of cells.now) (operands_of cells.now) }
-    requires formal { FormalAt (codes_of cells.now) (operands_of cells.now) i }
-    ensures { CellAt (codes_of cells.now) (operands_of cells.now) i (Formal result) }
-{
-    let Cell::Formal(x) = cell_at(cells, i) else {
-        unreachable()
-    };
-    x
 }

@@ -2,6 +2,8 @@
 #![tactic(auto)]
 
 mod emit;
+mod formals;
 mod image;
+mod memory;
 
 pub use image::translate;
