@@ -34,7 +34,7 @@ impl Role {
 }
 
 // The cells of a table, and its formals.
-#[derive(Clone, Copy)]
+#[derive(Clone, Copy, PartialEq, Eq, Debug)]
 pub(crate) struct Source<'a, 'b> {
     pub(crate) cells: Cells<'a>,
     pub(crate) formals: Formals<'b>,

@@ -10,7 +10,7 @@ use language::Variable;
 use translator::Cells;
 
 // The names of a definition's formals.
-#[derive(Clone, Copy)]
+#[derive(Clone, Copy, PartialEq, Eq, Debug)]
 pub(crate) struct Formals<'b> {
     names: &'b [Variable],
     ghost few: { length names.now ≤ 15 },
