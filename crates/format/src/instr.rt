@@ -76,6 +76,7 @@ impl Instr {
         }
     }
 
+    // A method and no conversion: the operand goes with the code.
     pub fn code(&self) -> u8
         ensures { result ≡ code self.now }
     {

@@ -8,6 +8,7 @@ pub const HEADER_LEN: usize = 8;
 // Bytes of a cell or an instruction: a code and an operand.
 pub const ROW_LEN: usize = 5;
 
+// Two arrays, as they lie in the bytes: nothing is copied.
 #[derive(Clone, Copy, PartialEq, Eq, Debug)]
 pub struct Layout<'a> {
     codes: &'a [u8],

@@ -25,6 +25,7 @@ pub enum Refusal {
 }
 
 impl Refusal {
+    // A method and no conversion: the number alone is not the refusal.
     pub fn number(&self) -> u8
         ensures { result ≡ (told self.now).number }
     {

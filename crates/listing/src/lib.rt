@@ -38,6 +38,7 @@ impl Listing {
             })
             .collect(heap)?;
         note(&mut lines, 0, 0);
+        // by index, since an instruction's successors stand anywhere
         for p in 0..lines.len() {
             follow(&mut lines, p);
         }

@@ -36,7 +36,7 @@ impl Place {
 }
 
 // Bytes that hold an image of `count` instructions.
-#[derive(PartialEq, Eq, Debug, Drop)]
+#[derive(Debug, Drop)]
 pub(crate) struct Memory<'a> {
     pub(crate) bytes: &'a mut [u8],
     pub(crate) count: u16,
