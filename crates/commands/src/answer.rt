@@ -6,6 +6,7 @@ use crate::command::Mistake;
 use format::refusal::Refusal;
 use std::fmt;
 
+// An enum and no `Result`, which could have no `Display` of ours.
 #[derive(Clone, Copy, PartialEq, Eq, Debug)]
 pub enum Answer {
     Accepted,

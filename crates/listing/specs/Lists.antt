@@ -32,5 +32,6 @@ Complete code heights = Level code → (p h : ℕ) → p < length code → Forwa
 -- a listing of this code
 pub record Lists (code : List Instr) (l : Listing) : Type 0 where
   pub instrs_are : instrs_of l ≡ code
+  pub one_each : length (heights_of l) ≡ length code
   pub sound : Sound code (heights_of l)
   pub complete : Complete code (heights_of l)

@@ -131,6 +131,7 @@ impl<'a, 'b> Source<'a, 'b> {
     }
 
     // Translates `count` expressions one after the other.
+    // By recursion, as lists of parts are defined: the first and the rest.
     #[cycle(emitting)]
     fn translate_list(&self, out: &mut Memory, start: Place, role: Role, count: u16) -> Place
         requires { ReadyList self.now role out.old.count start count }

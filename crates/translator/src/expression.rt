@@ -56,6 +56,7 @@ impl<'a> Cells<'a> {
     }
 
     // The `count` expressions that begin at `at`, one after the other, or None where there are fewer. Each leaves `lift` values below the next.
+    // By recursion, as lists of parts are defined: the first and the rest.
     #[cycle(reading)]
     fn read_parts(&self, at: u16, count: u16, lift: u16) -> Option<Extent>
         requires { lift ≤ 1 }

@@ -1,4 +1,5 @@
-use Rattle.std.proofs.Common.{◌≡◌, ◌∙◌, vec_items, map, arith, rules}
+use Rattle.std.proofs.Common.{◌≡◌, ap, ◌∙◌, length, vec_items, map, arith, rules}
+use Rattle.listing.proofs.Heights.{one_each}
 use Rattle.listing.proofs.Passing.{unknown, pass_none, pass_more, pass_whole, in_vec}
 use Rattle.listing.proofs.Listing.new.Goals as goal
 
@@ -14,4 +15,4 @@ loop-p-preserved c =
 pub returns : goal.returns
 returns c =
     let passed = c.loop-p.invariant.passed in
-    record { instrs_are = passed.instrs; sound = passed.sound; complete = pass_whole _ _ _ (omega arith) passed }
+    record { instrs_are = passed.instrs; one_each = one_each _ ∙ ap length passed.instrs; sound = passed.sound; complete = pass_whole _ _ _ (omega arith) passed }
