@@ -40,6 +40,7 @@ pub(crate) struct Source<'a, 'b> {
     pub(crate) formals: Formals<'b>,
 }
 
+// Each method requires that an expression of its kind stands at the place. The fact names the tree, so no ghost field can hold it.
 impl<'a, 'b> Source<'a, 'b> {
     // The cell at `at`, where there is one.
     fn cell(&self, at: u16) -> Cell
