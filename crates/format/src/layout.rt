@@ -51,8 +51,9 @@ impl<'a> Layout<'a> {
     pub fn row(&self, i: u16) -> Option<Row>
         ensures { MatchOption result (NoRow self.now i) (RowAt self.now i) }
     {
-        let code = *self.codes.get(i as usize)?;
-        let [a, b, c, d] = *self.operands.get(i as usize)?;
+        let i = i as usize;
+        let code = *self.codes.get(i)?;
+        let [a, b, c, d] = self.operands[i];
         let operand = i32::from_le_bytes([a, b, c, d]);
         Some(Row { code, operand })
     }

@@ -12,5 +12,5 @@ returns c =
     record {
       within = search rules;
       code = search rules;
-      operand = rw same (value_at c.args.self.now.operands.now each c.args.i (search rules) c.in_ok-a.field-0.now (search rules) v f c.from_le_bytes-operand.ensures);
+      operand = rw same (value_at c.args.self.now.operands.now each c.args.i (search rules) v f c.from_le_bytes-operand.ensures);
     }
