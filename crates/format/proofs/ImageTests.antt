@@ -8,7 +8,7 @@ use Rattle.format.specs.Layout.{bytes4, codes_in, operands_in}
 use Rattle.format.specs.Headers.{HeaderAt}
 use Rattle.format.specs.declared.instr.Instr.{Instr}
 use Rattle.format.specs.declared.layout.Row.{Row}
-use Rattle.format.specs.Rows.{Cut, RowAt}
+use Rattle.format.specs.Rows.{Cut, SizedTo, RowAt}
 use Rattle.format.specs.declared.instr.Instr.TheVariants.{Push, LoadF, LoadG, StoreF, StoreG, Pop, Jump, Jz, Find, Call, Ret, Bind}
 use Rattle.format.specs.Instrs.{NoInstr, IsInstr, Belongs, operand}
 use Rattle.language.specs.Limits.{IsValue}
@@ -17,11 +17,8 @@ use Rattle.format.proofs.Bytes.{bytes4_injective}
 use Rattle.format.proofs.Headers.{few_formals, sizes}
 
 module _ (bytes codes operands : List ℕ) (cut : Cut bytes codes operands) where
-  pub some_sized : 0 < length codes → length codes ≤ 6144 → ImageSized bytes
-  some_sized some few = record { whole = cut.whole; some = omega (arith, (sizes bytes codes operands cut).0); few = omega (arith, (sizes bytes codes operands cut).0) }
-
-  pub sized_some : ImageSized bytes → (0 < length codes) × (length codes ≤ 6144)
-  sized_some s = (omega (arith, (sizes bytes codes operands cut).0, s.some), omega (arith, (sizes bytes codes operands cut).0, s.few))
+  pub few_codes : {most : ℕ} → SizedTo most bytes → length codes ≤ most
+  few_codes s = omega (arith, (sizes bytes codes operands cut).0, s.few)
 
   module _ (h : Header) (at : HeaderAt bytes h) where
     pub formals_few : h.formals < 16

@@ -8,14 +8,12 @@ use Rattle.format.specs.declared.refusal.Refusal.TheVariants.{Size, Head, Code}
 use Rattle.format.specs.Refusals.{Told, told}
 use Rattle.format.specs.Layout.{bytes4, u16_at, count_in, codes_in, operands_in}
 use Rattle.format.specs.Headers.{Headed, HeaderAt}
-use Rattle.format.specs.Rows.{codes_of, operands_of, Whole}
+use Rattle.format.specs.Rows.{codes_of, operands_of, SizedTo}
 use Rattle.format.specs.Instrs.{code, operand, Belongs}
 
 -- 1 to 6,144 instructions, and as many bytes as they take
-pub record ImageSized (bytes : List ℕ) : Type 0 where
-  pub whole : Whole bytes
-  pub some : 0 < count_in bytes
-  pub few : count_in bytes ≤ 6144
+abbrev pub ImageSized : List ℕ → Type 0
+ImageSized bytes = SizedTo 6144 bytes
 
 -- a header of a height from 1 to 2,048
 pub record ImageHead (bytes : List ℕ) : Type 0 where

@@ -25,6 +25,17 @@ pub record Cut (bytes codes operands : List ℕ) : Type 0 where
   pub codes_are : codes ≡ codes_in bytes
   pub operands_are : operands ≡ operands_in bytes
 
+-- some rows, but not too many, and as many bytes as they take
+pub record SizedTo (most : ℕ) (bytes : List ℕ) : Type 0 where
+  pub whole : Whole bytes
+  pub some : 0 < count_in bytes
+  pub few : count_in bytes ≤ most
+
+-- such bytes, and their layout
+pub record CutTo (most : ℕ) (bytes : List ℕ) (l : Layout) : Type 0 where
+  pub sized : SizedTo most bytes
+  pub cut : Cut bytes (codes_of l) (operands_of l)
+
 -- the four bytes from a place on are those of a value
 pub record ValueAt (bytes : List ℕ) (at : ℕ) (v : ℤ) : Type 0 where
   pub value : IsValue v

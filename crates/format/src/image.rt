@@ -28,11 +28,7 @@ impl<'a> Image<'a> {
     pub fn read(bytes: &'a [u8]) -> Result<Image<'a>, Refusal>
         ensures { ImageAnswered bytes.now result }
     {
-        let instrs = Layout::cut(bytes).ok_or(Refusal::Size)?;
-        let count = instrs.len();
-        if count == 0 || count > MAX_INSTRS {
-            return Err(Refusal::Size);
-        }
+        let instrs = Layout::cut_to(bytes, MAX_INSTRS).ok_or(Refusal::Size)?;
         let header = Header::read(bytes).ok_or(Refusal::Head)?;
         if header.height == 0 || header.height > MAX_HEIGHT {
             return Err(Refusal::Head);

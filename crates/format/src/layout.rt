@@ -25,7 +25,7 @@ pub struct Row {
 }
 
 impl<'a> Layout<'a> {
-    ghost use Rattle.format.specs.Rows.{codes_of, operands_of, Whole, Cut, RowAt, NoRow};
+    ghost use Rattle.format.specs.Rows.{codes_of, operands_of, Whole, Cut, SizedTo, CutTo, RowAt, NoRow};
 
     // None where the bytes are not as many as their header says.
     pub fn cut(bytes: &'a [u8]) -> Option<Layout<'a>>
@@ -39,6 +39,18 @@ impl<'a> Layout<'a> {
         let (codes, operands) = rows.split_at(count);
         let (operands, _) = operands.as_chunks();
         Some(Layout { codes, operands })
+    }
+
+    // The same of one row at least and `most` at most.
+    pub fn cut_to(bytes: &'a [u8], most: usize) -> Option<Layout<'a>>
+        ensures { MatchOption result (SizedTo most bytes.now → ⊥) (CutTo most bytes.now) }
+    {
+        let layout = Layout::cut(bytes)?;
+        let count = layout.len();
+        if count == 0 || count > most {
+            return None;
+        }
+        Some(layout)
     }
 
     pub fn len(&self) -> usize
