@@ -6,7 +6,7 @@ use Rattle.format.specs.declared.instr.Instr.{Instr}
 use Rattle.format.specs.declared.refusal.Refusal.{Refusal}
 use Rattle.format.specs.declared.refusal.Refusal.TheVariants.{Size, Head, Code}
 use Rattle.format.specs.Refusals.{Told, told}
-use Rattle.format.specs.Layout.{bytes4, u16_at, count_in, codes_in, operands_in}
+use Rattle.format.specs.Layout.{bytes4, u16_at, codes_in, operands_in}
 use Rattle.format.specs.Headers.{Headed, HeaderAt}
 use Rattle.format.specs.Rows.{codes_of, operands_of, SizedTo}
 use Rattle.format.specs.Instrs.{code, operand, Belongs}

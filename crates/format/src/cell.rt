@@ -3,10 +3,8 @@ ghost use Rattle.std.specs.Prelude.{◌≡◌, MatchOption};
 ghost use Rattle.format.specs.Cells.{NoCell, IsCell, parts, is_formal};
 
 use crate::layout::Row;
-use language::{Function, MAX_ARGUMENTS, MAX_PARTS, NAMES, Variable};
-
-// The operand of an APPLY or a CALL is its function times this, plus the number of arguments.
-pub(crate) const CALL_BASE: u16 = MAX_ARGUMENTS + 1;
+use crate::operand::{call, name};
+use language::{Function, MAX_PARTS, Variable};
 
 #[derive(Clone, Copy, PartialEq, Eq, Debug)]
 pub enum Cell {
@@ -32,16 +30,13 @@ impl Cell {
         }
         let operand = u16::try_from(row.operand).ok()?;
         match row.code {
-            1 if operand < NAMES as u16 => Some(Cell::Var(operand as u8)),
-            2 if operand < NAMES as u16 => Some(Cell::Set(operand as u8)),
+            1 => name(operand).map(Cell::Var),
+            2 => name(operand).map(Cell::Set),
             3 if operand == 0 => Some(Cell::If),
             4 if operand == 0 => Some(Cell::While),
             5 if operand <= MAX_PARTS => Some(Cell::Begin(operand)),
-            6 if operand < NAMES as u16 * CALL_BASE => Some(Cell::Apply(
-                (operand / CALL_BASE) as u8,
-                (operand % CALL_BASE) as u8,
-            )),
-            7 if operand < NAMES as u16 => Some(Cell::Formal(operand as u8)),
+            6 => call(operand).map(|(function, count)| Cell::Apply(function, count)),
+            7 => name(operand).map(Cell::Formal),
             _ => None,
         }
     }
@@ -61,6 +56,7 @@ impl Cell {
         }
     }
 
+    // By `matches!`: an equality would want the variable.
     pub fn is_formal(&self) -> bool
         ensures { result ≡ is_formal self.now }
     {

@@ -2,10 +2,10 @@
 ghost use Rattle.std.specs.Prelude.{◌≡◌, MatchOption};
 ghost use Rattle.format.specs.Instrs.{name, code, operand, NoInstr, IsInstr};
 
-use crate::cell::CALL_BASE;
 use crate::header::{Header, Kind};
 use crate::layout::Row;
-use language::{Function, NAMES, Variable};
+use crate::operand::{CALL_BASE, call, name};
+use language::{Function, Variable};
 
 #[derive(Clone, Copy, PartialEq, Eq, Debug)]
 pub enum Instr {
@@ -38,17 +38,14 @@ impl Instr {
         let operand = u16::try_from(row.operand).ok()?;
         match row.code {
             1 if operand < header.formals as u16 => Some(Instr::LoadF(operand as u8)),
-            2 if operand < NAMES as u16 => Some(Instr::LoadG(operand as u8)),
+            2 => name(operand).map(Instr::LoadG),
             3 if operand < header.formals as u16 => Some(Instr::StoreF(operand as u8)),
-            4 if operand < NAMES as u16 => Some(Instr::StoreG(operand as u8)),
+            4 => name(operand).map(Instr::StoreG),
             5 if operand == 0 => Some(Instr::Pop),
             6 if operand < count => Some(Instr::Jump(operand)),
             7 if operand < count => Some(Instr::Jz(operand)),
-            8 if operand < NAMES as u16 => Some(Instr::Find(operand as u8)),
-            9 if operand < NAMES as u16 * CALL_BASE => Some(Instr::Call(
-                (operand / CALL_BASE) as u8,
-                (operand % CALL_BASE) as u8,
-            )),
+            8 => name(operand).map(Instr::Find),
+            9 => call(operand).map(|(function, count)| Instr::Call(function, count)),
             10 if operand == 0 && header.kind == Kind::Function => Some(Instr::Ret),
             11 if operand == header.number as u16 && header.kind == Kind::Variable => {
                 Some(Instr::Bind(header.number))

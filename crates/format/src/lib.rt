@@ -6,4 +6,5 @@ pub mod header;
 pub mod image;
 pub mod instr;
 pub mod layout;
+mod operand;
 pub mod refusal;

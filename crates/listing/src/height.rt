@@ -80,8 +80,7 @@ pub(crate) fn follow(lines: &mut [Line], p: usize)
     ensures { (i : Instr) → At (instrs_in lines.old) p i → Notes (Stepped (heights_in lines.old) i p) lines.old lines.new }
 {
     let line = lines[p];
-    let Some(height_after) = line.height.and_then(|height| after(line.instr, height)) else {
-        return;
-    };
-    note_onward(lines, p, line.instr, height_after);
+    if let Some(height_after) = line.height.and_then(|height| after(line.instr, height)) {
+        note_onward(lines, p, line.instr, height_after);
+    }
 }

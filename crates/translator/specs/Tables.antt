@@ -3,16 +3,14 @@ use Rattle.std.specs.Prelude.{◌≡◌, ℕ, ◌*◌, ◌<◌, ◌≤◌, List,
 use Rattle.language.specs.Tree.{Definition}
 use Rattle.language.specs.Limits.{Fits}
 use Rattle.format.specs.declared.cell.Cell.{Cell}
-use Rattle.format.specs.Layout.{bytes4, u16_at, count_in}
+use Rattle.format.specs.Layout.{bytes4, u16_at}
 use Rattle.format.specs.Headers.{Headed}
-use Rattle.format.specs.Rows.{Whole}
+use Rattle.format.specs.Rows.{SizedTo}
 use Rattle.format.specs.Cells.{code, operand, Valid, is_formal, table_of}
 
 -- 1 to 2,048 cells, and as many bytes as they take
-pub record Sized (t : List ℕ) : Type 0 where
-  pub whole : Whole t
-  pub some : 0 < count_in t
-  pub few : count_in t ≤ 2048
+abbrev pub Sized : List ℕ → Type 0
+Sized t = SizedTo 2048 t
 
 -- a header of height 0
 pub record TableHead (t : List ℕ) : Type 0 where

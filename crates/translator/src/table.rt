@@ -1,6 +1,7 @@
 // The check of a table.
 ghost use Rattle.translator.specs.Verdict.{Answered};
 
+use crate::candidate::Candidate;
 use crate::cells::Cells;
 use format::header::Header;
 use format::refusal::Refusal;
@@ -26,16 +27,15 @@ pub fn accept(table: &[u8]) -> Result<Table<'_>, Refusal>
     if header.height != 0 {
         return Err(Refusal::Head);
     }
-    if let Some(index) = cells.first_wrong(header.formals) {
+    let candidate = Candidate { header, cells };
+    if let Some(index) = candidate.first_wrong() {
         return Err(Refusal::Cell(index));
     }
-    let body = cells
-        .read_expression(header.formals as u16)
-        .ok_or(Refusal::Shape)?;
+    let body = candidate.read_body().ok_or(Refusal::Shape)?;
     if body.end < cells.len() {
         return Err(Refusal::Shape);
     }
-    if cells.has_repeated(header.formals) {
+    if candidate.has_repeated() {
         return Err(Refusal::Twice);
     }
     if body.depth > MAX_DEPTH {

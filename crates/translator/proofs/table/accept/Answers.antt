@@ -39,21 +39,21 @@ pub returns-in_err-body : goal.returns-in_err-body
 returns-in_err-body c =
     let cells = rw c.in_ok-cells.ensures.ok_part at c.cut.ensures in
     let at = rw c.in_ok-header.ensures.ok_part at c.read.ensures in
-    let none = rw c.in_err-body.ensures.ok_part at c.read_expression.ensures in
+    let none = rw c.in_err-body.ensures.ok_part at c.read_body.ensures in
     refused _ Shape _ (search rules) (no_body _ _ _ cells.cut _ at cells.sized c.if-header-ne0.false c.in_default.ensures none)
 
 pub returns-then-body-len : goal.returns-then-body-len
 returns-then-body-len c =
     let cells = rw c.in_ok-cells.ensures.ok_part at c.cut.ensures in
     let at = rw c.in_ok-header.ensures.ok_part at c.read.ensures in
-    let exp = rw c.in_ok-body.ensures.ok_part at c.read_expression.ensures in
+    let exp = rw c.in_ok-body.ensures.ok_part at c.read_body.ensures in
     answered _ _ (left_over _ _ _ cells.cut _ at c.in_ok-body.body cells.sized c.if-header-ne0.false c.in_default.ensures exp (omega arith))
 
 pub returns-then-has_repeated : goal.returns-then-has_repeated
 returns-then-has_repeated c =
     let cells = rw c.in_ok-cells.ensures.ok_part at c.cut.ensures in
     let at = rw c.in_ok-header.ensures.ok_part at c.read.ensures in
-    let exp = rw c.in_ok-body.ensures.ok_part at c.read_expression.ensures in
+    let exp = rw c.in_ok-body.ensures.ok_part at c.read_body.ensures in
     let m = decoded _ _ _ _ c.in_ok-body.body cells.cut c.in_ok-cells.cells.few at c.if-header-ne0.false exp (omega arith) (end_within _ _ _ _ exp) c.in_default.ensures in
     answered _ _ (refuse_twice _ _ _ cells.cut _ at _ m c.if-has_repeated.ensures)
 
@@ -61,19 +61,19 @@ pub returns-then-body-gt-MAX_DEPTH : goal.returns-then-body-gt-MAX_DEPTH
 returns-then-body-gt-MAX_DEPTH c =
     let cells = rw c.in_ok-cells.ensures.ok_part at c.cut.ensures in
     let at = rw c.in_ok-header.ensures.ok_part at c.read.ensures in
-    let exp = rw c.in_ok-body.ensures.ok_part at c.read_expression.ensures in
+    let exp = rw c.in_ok-body.ensures.ok_part at c.read_body.ensures in
     let m = decoded _ _ _ _ c.in_ok-body.body cells.cut c.in_ok-cells.cells.few at c.if-header-ne0.false exp (omega arith) (end_within _ _ _ _ exp) c.in_default.ensures in
     answered _ _ (refuse_nest _ _ _ cells.cut _ at _ m c.if-has_repeated.ensures c.if-body-gt-MAX_DEPTH.true)
 
 pub overflow_add-result : goal.overflow_add-result
 overflow_add-result c =
-    let exp = rw c.in_ok-body.ensures.ok_part at c.read_expression.ensures in
+    let exp = rw c.in_ok-body.ensures.ok_part at c.read_body.ensures in
     omega (arith, c.in_ok-cells.cells.few, (exp_bounds _ _ _ _ exp).3, end_within _ _ _ _ exp)
 
 pub returns : goal.returns
 returns c =
     let cells = rw c.in_ok-cells.ensures.ok_part at c.cut.ensures in
     let at = rw c.in_ok-header.ensures.ok_part at c.read.ensures in
-    let exp = rw c.in_ok-body.ensures.ok_part at c.read_expression.ensures in
+    let exp = rw c.in_ok-body.ensures.ok_part at c.read_body.ensures in
     let m = decoded _ _ _ _ c.in_ok-body.body cells.cut c.in_ok-cells.cells.few at c.if-header-ne0.false exp (omega arith) (end_within _ _ _ _ exp) c.in_default.ensures in
     answered _ _ (accepted _ _ _ cells.cut _ at _ m _ refl refl refl refl refl c.if-has_repeated.ensures c.if-body-gt-MAX_DEPTH.false)
