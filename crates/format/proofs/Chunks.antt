@@ -2,7 +2,7 @@
 use Rattle.std.proofs.Common.{◌≡◌, ℕ, zero, suc, ◌+◌, ◌*◌, ◌<◌, List, [], ◌∷◌, ◌++◌, length, take, drop, get_or, sym, ap, refl, ◌∙◌, arith, length-take, length-drop, length-append}
 use Rattle.std.specs.List.{All, concat}
 use Rattle.std.specs.Simd.{first_chunks}
-use Rattle.std.proofs.lemmas.List.{get_or-take, get_or-drop, get_or_default, take-append-drop}
+use Rattle.std.proofs.lemmas.List.{get_or-drop, take-append-drop}
 use Rattle.std.proofs.Math.Seq.{take-append_seam, drop-append-add}
 use Rattle.format.specs.declared.layout.Layout.{Layout}
 use Rattle.format.specs.Layout.{FourBytes}
@@ -21,9 +21,15 @@ concat_chunks (suc k) xs e =
 pub small_drop : (n : ℕ) (xs : List ℕ) → ((i : ℕ) → get_or xs i 0 < 256) → (i : ℕ) → get_or (drop n xs) i 0 < 256
 small_drop n xs small i = rw (get_or-drop n xs i 0) (small (n + i))
 
+small_take : (n : ℕ) (xs : List ℕ) → ((i : ℕ) → get_or xs i 0 < 256) → (i : ℕ) → get_or (take n xs) i 0 < 256
+small_take zero xs small i = omega arith
+small_take (suc n) [] small i = omega arith
+small_take (suc n) (x ∷ xs) small zero = small 0
+small_take (suc n) (x ∷ xs) small (suc i) = small_take n xs (λ k. small (suc k)) i
+
 pub four_bytes : (k : ℕ) (xs : List ℕ) → length xs ≡ 4 * k → ((i : ℕ) → get_or xs i 0 < 256) → All FourBytes (first_chunks 4 k xs)
 four_bytes zero xs e small i d lt = absurd (omega (arith, lt))
-four_bytes (suc k) xs e small zero d lt = record { four = length-take 4 xs ∙ omega (arith, e); small = λ j d lt. rw (get_or_default (take 4 xs) j d 0 lt, get_or-take 4 xs j 0 (omega (arith, lt, length-take 4 xs))) (small j) }
+four_bytes (suc k) xs e small zero d lt = record { four = length-take 4 xs ∙ omega (arith, e); small = small_take 4 xs small }
 four_bytes (suc k) xs e small (suc i) d lt =
     four_bytes k (drop 4 xs) (omega (arith, length-drop 4 xs, e)) (small_drop 4 xs small) i d (omega (arith, lt))
 

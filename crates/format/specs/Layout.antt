@@ -46,7 +46,7 @@ operands_in bytes = drop (8 + count_in bytes) bytes
 
 pub record FourBytes (bytes : List ℕ) : Type 0 where
   pub four : length bytes ≡ 4
-  pub small : All (λ b. b < 256) bytes
+  pub small : (i : ℕ) → slice_index bytes i < 256
 
 -- an operand of four bytes for each code
 pub record Parallel (codes : List ℕ) (operands : List (List ℕ)) : Type 0 where

@@ -26,13 +26,13 @@ use Rattle.translator.proofs.Arrays.{valid_front, valid_back, valid_ranged, vali
 -- ---- the formals
 
 formal_cell : (c : Cell) → is_formal c ≡ true → (x : ℕ) × (c ≡ Formal x)
-formal_cell (Literal v) h = absurd (let z : ◌≡◌ {A = ℕ} 0 1 = cc h in omega arith)
-formal_cell (Var x) h = absurd (let z : ◌≡◌ {A = ℕ} 0 1 = cc h in omega arith)
-formal_cell (Set x) h = absurd (let z : ◌≡◌ {A = ℕ} 0 1 = cc h in omega arith)
-formal_cell If h = absurd (let z : ◌≡◌ {A = ℕ} 0 1 = cc h in omega arith)
-formal_cell While h = absurd (let z : ◌≡◌ {A = ℕ} 0 1 = cc h in omega arith)
-formal_cell (Begin n) h = absurd (let z : ◌≡◌ {A = ℕ} 0 1 = cc h in omega arith)
-formal_cell (Apply f k) h = absurd (let z : ◌≡◌ {A = ℕ} 0 1 = cc h in omega arith)
+formal_cell (Literal v) h = absurd (cc h)
+formal_cell (Var x) h = absurd (cc h)
+formal_cell (Set x) h = absurd (cc h)
+formal_cell If h = absurd (cc h)
+formal_cell While h = absurd (cc h)
+formal_cell (Begin n) h = absurd (cc h)
+formal_cell (Apply f k) h = absurd (cc h)
 formal_cell (Formal x) h = (x, refl)
 
 record Names (codes operands : List ℕ) (at n : ℕ) : Type 0 where

@@ -26,7 +26,7 @@ module _ (codes operands : List ℕ) where
     head_is e x = ap parts (one_cell here (first e x).0) ∙ (split e).many
 
     pub formal : None ≡ parts c → NoExp codes operands at
-    formal h e x = let z : None ≡ Some (count (parts_in e)) = h ∙ head_is e x in let n : ◌≡◌ {A = ℕ} 0 1 = cc z in omega arith
+    formal h e x = let z : None ≡ Some (count (parts_in e)) = h ∙ head_is e x in cc z
 
     pub no_parts : (n : ℕ) → Some n ≡ parts c → NoExps codes operands (at + 1) n → NoExp codes operands at
     no_parts n h none e x =

@@ -1,5 +1,5 @@
 -- Prefix codes: an expression by its first cell and its parts, and that cells begin with one expression at most.
-use Rattle.std.proofs.Common.{◌≡◌, ℕ, zero, suc, ◌+◌, ◌*◌, ◌<◌, ◌≤◌, max, List, [], ◌∷◌, ◌++◌, length, Some, None, Option, sym, refl, ap, ◌∙◌, subst, append_assoc, append-nil, arith, length-append}
+use Rattle.std.proofs.Common.{◌≡◌, ℕ, zero, suc, ◌+◌, ◌*◌, ◌<◌, ◌≤◌, max, List, [], ◌∷◌, ◌++◌, length, Some, sym, refl, ap, ◌∙◌, subst, append_assoc, append-nil, arith, length-append}
 use Rattle.language.specs.Tree.{Exp, LITERAL, VAR, SET, IF, WHILE, BEGIN, APPLY, Exps, nil, cons, count, size, sizes, depth, depths}
 use Rattle.format.specs.declared.cell.Cell.{Cell}
 use Rattle.format.specs.declared.cell.Cell.TheVariants.{Literal, Var, Set, If, While, Begin, Apply, Formal}
@@ -75,16 +75,8 @@ split (WHILE c b) = record { cells = rw (append-nil (encode b)) refl; many = ref
 split (BEGIN es) = record { cells = refl; many = refl; deep = refl; long = together_own es; high = ap (max 1) (highest_raised es) }
 split (APPLY f es) = record { cells = refl; many = refl; deep = refl; long = refl; high = applied es }
 
-amount : Option ℕ → ℕ
-amount None = 0
-amount (Some n) = n
-
 same_count : (m n : ℕ) → Some m ≡ Some n → m ≡ n
-unfolding amount
-same_count m n h = ap amount h
-
-no_count : (n : ℕ) → None ≡ Some n → ⊥
-no_count n h = let z : ◌≡◌ {A = ℕ} 0 1 = cc h in omega arith
+same_count m n h = cc h
 
 -- a cell with as many parts as follow it is an expression
 pub make : (c : Cell) (es : Exps) → parts c ≡ Some (count es) → (e : Exp) × Split e c es
@@ -106,7 +98,7 @@ make While (cons a (cons b nil)) h = (WHILE a b, split (WHILE a b))
 make While (cons a (cons b (cons c es))) h = absurd (omega (arith, same_count _ _ h))
 make (Begin n) es h = (BEGIN es, subst (λ k. Split (BEGIN es) (Begin k) es) (sym (same_count _ _ h)) (split (BEGIN es)))
 make (Apply f n) es h = (APPLY f es, subst (λ k. Split (APPLY f es) (Apply f k) es) (sym (same_count _ _ h)) (split (APPLY f es)))
-make (Formal x) es h = absurd (no_count _ h)
+make (Formal x) es h = absurd (cc h)
 
 -- The cells read from the right, each taking its parts off what is built; the result means nothing where parts are missing.
 abbrev takes : ℕ → Exps → Exps

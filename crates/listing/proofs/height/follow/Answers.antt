@@ -11,7 +11,7 @@ pub returns-in_default : goal.returns-in_default
 returns-in_default c =
     notes_nowhere _ _ _ (λ height is. let after = MatchOption-at_some _ _ height is c.in_default.ensures in search rules)
 
-pub returns : goal.returns
-returns c =
+pub returns-in-Some : goal.returns-in-Some
+returns-in-Some c =
     let had = some_then _ c.in-Some.height_after _ c.in-Some.ensures in
     notes_after _ _ _ _ _ _ had.1 (let after = had.2 in search rules) (omega arith) c.note_onward.ensures
