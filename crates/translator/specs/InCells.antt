@@ -1,4 +1,4 @@
--- The cells that a value of the type holds, and what stands in them.
+-- What stands in `Cells`.
 use Rattle.std.specs.Prelude.{ℕ, List}
 use Rattle.format.specs.declared.cell.Cell.{Cell}
 use Rattle.format.specs.Rows.{codes_of, operands_of, Cut}
