@@ -12,17 +12,16 @@ use Rattle.translator.specs.Weight.{weight}
 use Rattle.translation.specs.declared.emit.Source.{Source}
 use Rattle.translation.specs.declared.emit.Role.{Role}
 use Rattle.translation.specs.declared.emit.Role.TheVariants.{Part, Argument}
-use Rattle.translation.specs.declared.memory.Memory.{Memory}
-use Rattle.translation.specs.declared.memory.Place.{Place}
+use Rattle.translation.specs.declared.writer.Writer.{Writer}
 use Rattle.translation.specs.Translation.{load, store, code, rest, arguments}
 use Rattle.translation.specs.Standing.{CellsIn, SomeCell}
-use Rattle.translation.specs.Writing.{Kept, Wrote, Emitted, PastCell, PastInstr}
+use Rattle.translation.specs.Writing.{Wrote, Emitted, Passed, Put}
 use Rattle.translation.specs.Emission.{names, Here, Ready, ReadyAs, Emits, before, listed, heft, HereList, ReadyList, EmitsList}
 use Rattle.translator.proofs.Trees.{head_of, unique, encode_size, size_some}
 use Rattle.translator.proofs.Places.{one_cell, cells_front, cells_back, meet}
 use Rattle.translator.proofs.Steps.{first, one_exp}
 use Rattle.translation.proofs.Coding.{second, third, length-code, length_rest, length-arguments, weight_some}
-use Rattle.translation.proofs.Writing.{both, filled, cell_then, same, nothing}
+use Rattle.translation.proofs.Writing.{both, filled, passed_then, cell_then, same, nothing}
 
 -- what the first cell says of an expression
 abbrev View : Cell → Exp → Type 0
@@ -66,11 +65,13 @@ code_if xs c a b p q r j v hq hr hj hv =
     let target : j ≡ third xs c a p = hj ∙ to in
     append_assoc (code xs c p) (Jz j ∷ code xs a q) (Jump v ∷ code xs b r) ∙ (λ i. code xs c p ++ (Jz (target i) ∷ (code xs a (hq i) ++ (Jump (past i) ∷ code xs b (to i)))))
 
-code_while : (xs : List ℕ) (c b : Exp) (p q j k : ℕ) → q ≡ second xs c p → j ≡ q + length (code xs b q) + 2 → k ≡ p → (code xs c p ++ (Jz j ∷ code xs b q)) ++ (Pop ∷ Jump k ∷ Push (pos 0) ∷ []) ≡ code xs (WHILE c b) p
+code_while : (xs : List ℕ) (c b : Exp) (p q j k : ℕ) → q ≡ second xs c p → j ≡ q + length (code xs b q) + 2 → k ≡ p → (code xs c p ++ (Jz j ∷ (code xs b q ++ (Pop ∷ Jump k ∷ [])))) ++ (Push (pos 0) ∷ []) ≡ code xs (WHILE c b) p
 unfolding code
 code_while xs c b p q j k hq hj hk =
     let target : j ≡ second xs c p + length (code xs b (second xs c p)) + 2 = hj ∙ ap (λ q. q + length (code xs b q) + 2) hq in
-    append_assoc (code xs c p) (Jz j ∷ code xs b q) (Pop ∷ Jump k ∷ Push (pos 0) ∷ []) ∙ (λ i. code xs c p ++ (Jz (target i) ∷ (code xs b (hq i) ++ (Pop ∷ Jump (hk i) ∷ Push (pos 0) ∷ []))))
+    append_assoc (code xs c p) (Jz j ∷ (code xs b q ++ (Pop ∷ Jump k ∷ []))) (Push (pos 0) ∷ [])
+    ∙ ap (λ l. code xs c p ++ (Jz j ∷ l)) (append_assoc (code xs b q) (Pop ∷ Jump k ∷ []) (Push (pos 0) ∷ []))
+    ∙ (λ i. code xs c p ++ (Jz (target i) ∷ (code xs b (hq i) ++ (Pop ∷ Jump (hk i) ∷ Push (pos 0) ∷ []))))
 
 code_empty : (xs : List ℕ) (p : ℕ) → Push (pos 0) ∷ [] ≡ code xs (BEGIN nil) p
 unfolding code
@@ -114,19 +115,20 @@ split : {k : ℕ} → 0 < k → (es : Exps) → count es ≡ k → Split k es
 split some nil many = absurd (omega arith)
 split some (cons e es) many = record { e = e; es = es; is = refl; many = omega arith }
 
+-- no instruction is written or passed with a cell
+past_end : {w v : Writer} → Passed w v 1 0 → v.«end» ≡ w.«end»
+past_end past = omega (arith, past.end_is)
+
 module _ (s : Source) where
   abbrev xs : List ℕ
   xs = names s
 
   -- what the translation of an expression tells, and of a list
-  abbrev Told : Memory → Memory → Place → Place → Exp → Type 0
-  Told m m' p r e = Emitted m m' p (length (encode e)) (code xs e p.«end») r
+  abbrev Told : Writer → Writer → Exp → Type 0
+  Told w w' e = Emitted w w' (length (encode e)) (code xs e w.«end»)
 
-  abbrev ToldList : Role → Memory → Memory → Place → Place → Exps → Type 0
-  ToldList role m m' p r es = Emitted m m' p (length (encodes es)) (listed role xs es p.«end») r
-
-  abbrev Fill : Memory → Memory → ℕ → Instr → Type 0
-  Fill m m' p x = Wrote m m' p (x ∷ [])
+  abbrev ToldList : Role → Writer → Writer → Exps → Type 0
+  ToldList role w w' es = Emitted w w' (length (encodes es)) (listed role xs es w.«end»)
 
   front : (at : ℕ) (A B : List Cell) → CellsIn s.cells at (A ++ B) → CellsIn s.cells at A
   front at A B stand = cells_front (cell_codes s.cells) (cell_operands s.cells) at A B stand
@@ -134,40 +136,40 @@ module _ (s : Source) where
   after : (at : ℕ) (A B : List Cell) (next : ℕ) → CellsIn s.cells at (A ++ B) → next ≡ at + length A → CellsIn s.cells next B
   after at A B next stand h = subst (λ k. CellsIn s.cells k B) (sym h) (cells_back (cell_codes s.cells) (cell_operands s.cells) at A B stand)
 
-  seen : {n : ℕ} {p : Place} {c : Cell} → (r : ReadyAs s n p c) → View c r.e
-  seen {n} {p} {c} r = subst (λ d. View d r.e) (one_cell (first (cell_codes s.cells) (cell_operands s.cells) r.e r.here.stand).0 r.head) (view r.e)
+  seen : {w : Writer} {c : Cell} → (r : ReadyAs s w c) → View c r.e
+  seen {w} {c} r = subst (λ d. View d r.e) (one_cell (first (cell_codes s.cells) (cell_operands s.cells) r.e r.here.stand).0 r.head) (view r.e)
 
   -- an expression at the front of cells
-  leads : {n : ℕ} {q : Place} (at : ℕ) (e : Exp) (B : List Cell) → CellsIn s.cells at (encode e ++ B) → q.next ≡ at → q.«end» + weight e ≤ n → Here s n q e
-  leads {n} {q} at e B stand h room = record { stand = subst (λ k. CellsIn s.cells k (encode e)) (sym h) (front at (encode e) B stand); room = room }
+  leads : {w : Writer} (at : ℕ) (e : Exp) (B : List Cell) → CellsIn s.cells at (encode e ++ B) → w.next ≡ at → w.«end» + weight e ≤ w.count → Here s w e
+  leads {w} at e B stand h room = record { stand = subst (λ k. CellsIn s.cells k (encode e)) (sym h) (front at (encode e) B stand); room = room }
 
-  pub begins : {n : ℕ} {p : Place} → Ready s n p → SomeCell s.cells p.next
+  pub begins : {w : Writer} → Ready s w → SomeCell s.cells w.next
   begins r = record { cell = head_of r.e; here = (first (cell_codes s.cells) (cell_operands s.cells) r.e r.here.stand).0 }
 
-  pub ready_as : {n : ℕ} {p : Place} {c d : Cell} → CellIn s.cells p.next c → c ≡ d → Ready s n p → ReadyAs s n p d
-  ready_as {n} {p} head is r = record { head = subst (CellIn s.cells p.next) is head; e = r.e; here = r.here }
+  pub ready_as : {w : Writer} {c d : Cell} → CellIn s.cells w.next c → c ≡ d → Ready s w → ReadyAs s w d
+  ready_as {w} {c} {d} head is r = record { head = subst (CellIn s.cells w.next) is head; e = r.e; here = r.here }
 
-  pub formal_never : {n x : ℕ} {p : Place} → ReadyAs s n p (Formal x) → ⊥
+  pub formal_never : {w : Writer} {x : ℕ} → ReadyAs s w (Formal x) → ⊥
   formal_never r = seen r
 
   -- an expression has an instruction
-  pub some_room : {n : ℕ} {p : Place} {e : Exp} → Here s n p e → p.«end» < n
-  some_room {n} {p} {e} h = omega (arith, h.room, weight_some e)
+  pub some_room : {w v : Writer} {e : Exp} → Passed w v 1 0 → Here s w e → v.«end» < v.count
+  some_room {w} {v} {e} past h = omega (arith, past.end_is, past.kept.same_count, h.room, weight_some e)
 
-  ends : {m m' : Memory} {p r : Place} (e : Exp) → Told m m' p r e → r.«end» ≡ p.«end» + weight e
-  ends {m} {m'} {p} {r} e t = omega (arith, t.end_is, length-code xs e p.«end»)
+  ends : {w w' : Writer} (e : Exp) → Told w w' e → w'.«end» ≡ w.«end» + weight e
+  ends {w} {w'} e t = omega (arith, t.end_is, length-code xs e w.«end»)
 
-  ends_list : {m m' : Memory} {p r : Place} (role : Role) (es : Exps) → ToldList role m m' p r es → r.«end» ≡ p.«end» + heft role es
-  ends_list {m} {m'} {p} {r} role es t = omega (arith, t.end_is, length-listed role xs es p.«end»)
+  ends_list : {w w' : Writer} (role : Role) (es : Exps) → ToldList role w w' es → w'.«end» ≡ w.«end» + heft role es
+  ends_list {w} {w'} role es t = omega (arith, t.end_is, length-listed role xs es w.«end»)
 
-  -- one expression stands at a place, and one list of so many: what is told of it is told of each
-  emits : {m m' : Memory} {p r : Place} {e : Exp} → Here s m.count p e → Told m m' p r e → Emits s m m' p r
-  emits {m} {m'} {p} {r} {e} h t =
-      let one = one_exp (cell_codes s.cells) (cell_operands s.cells) p.next e in
+  -- one expression stands at a cell, and one list of so many: what is told of it is told of each
+  emits : {w w' : Writer} {e : Exp} → Here s w e → Told w w' e → Emits s w w'
+  emits {w} {w'} {e} h t =
+      let one = one_exp (cell_codes s.cells) (cell_operands s.cells) w.next e in
       record {
         kept = t.wrote.kept;
         further = omega (arith, t.next_is, encode_size e, size_some e);
-        told = λ f g. subst (Told m m' p r) (one f h.stand g.stand) t;
+        told = λ f g. subst (Told w w') (one f h.stand g.stand) t;
       }
 
   one_list : (at : ℕ) (es fs : Exps) → count es ≡ count fs → CellsIn s.cells at (encodes es) → CellsIn s.cells at (encodes fs) → es ≡ fs
@@ -176,24 +178,24 @@ module _ (s : Source) where
       let one : BEGIN es ≡ BEGIN fs = unique (BEGIN es) (BEGIN fs) m.left m.right (λ i. Begin (many i) ∷ m.joined i) in
       cc one
 
-  emits_list : {role : Role} {m m' : Memory} {k : ℕ} {p r : Place} {es : Exps} → count es ≡ k → HereList s role m.count p es → ToldList role m m' p r es → EmitsList s role m m' p k r
-  emits_list {role} {m} {m'} {k} {p} {r} {es} many h t =
-      record { kept = t.wrote.kept; told = λ fs same g. subst (ToldList role m m' p r) (one_list p.next es fs (many ∙ sym same) h.stand g.stand) t }
+  emits_list : {role : Role} {w w' : Writer} {k : ℕ} {es : Exps} → count es ≡ k → HereList s role w es → ToldList role w w' es → EmitsList s role w w' k
+  emits_list {role} {w} {w'} {k} {es} many h t =
+      record { kept = t.wrote.kept; told = λ fs same g. subst (ToldList role w w') (one_list w.next es fs (many ∙ sym same) h.stand g.stand) t }
 
   -- ---- one instruction alone
 
-  module _ {m m' : Memory} {p q r : Place} (past : PastCell p q) where
-    alone : {e : Exp} (f : Exp) {x : Instr} → Here s m.count p e → e ≡ f → length (encode f) ≡ 1 → x ∷ [] ≡ code xs f p.«end» → Emitted m m' q 0 (x ∷ []) r → Emits s m m' p r
-    alone f h is one code_is t = emits (subst (Here s m.count p) is h) (same (cell_then past t) (sym one) code_is)
+  module _ {w v w₁ : Writer} (past : Passed w v 1 0) where
+    alone : {e : Exp} (f : Exp) {x : Instr} → Here s w e → e ≡ f → length (encode f) ≡ 1 → x ∷ [] ≡ code xs f w.«end» → Emitted v w₁ 0 (x ∷ []) → Emits s w w₁
+    alone f h is one code_is t = emits (subst (Here s w) is h) (same (cell_then past t) (sym one) code_is)
 
-    pub literal_done : {v : ℤ} → ReadyAs s m.count p (Literal v) → Emitted m m' q 0 (Push v ∷ []) r → Emits s m m' p r
-    literal_done {v} a t = alone (LITERAL v) a.here (seen a) refl (code_literal xs v p.«end») t
+    pub literal_done : {n : ℤ} → ReadyAs s w (Literal n) → Emitted v w₁ 0 (Push n ∷ []) → Emits s w w₁
+    literal_done {n} a t = alone (LITERAL n) a.here (seen a) refl (code_literal xs n w.«end») t
 
-    pub var_done : {x : ℕ} {y : Instr} → ReadyAs s m.count p (Var x) → y ≡ load (place xs x) x → Emitted m m' q 0 (y ∷ []) r → Emits s m m' p r
-    var_done {x} {y} a y_is t = alone (VAR x) a.here (seen a) refl (ap (λ y. y ∷ []) y_is ∙ code_var xs x p.«end») t
+    pub var_done : {x : ℕ} {y : Instr} → ReadyAs s w (Var x) → y ≡ load (place xs x) x → Emitted v w₁ 0 (y ∷ []) → Emits s w w₁
+    var_done {x} {y} a y_is t = alone (VAR x) a.here (seen a) refl (ap (λ y. y ∷ []) y_is ∙ code_var xs x w.«end») t
 
-    pub empty_done : {k : ℕ} → k ≡ 0 → ReadyAs s m.count p (Begin k) → Emitted m m' q 0 (Push (pos 0) ∷ []) r → Emits s m m' p r
-    empty_done none a t = let v = seen a in alone (BEGIN nil) a.here (v.1 ∙ ap BEGIN (no_parts v.0 (v.2 ∙ none))) refl (code_empty xs p.«end») t
+    pub empty_done : {k : ℕ} → k ≡ 0 → ReadyAs s w (Begin k) → Emitted v w₁ 0 (Push (pos 0) ∷ []) → Emits s w w₁
+    empty_done none a t = let y = seen a in alone (BEGIN nil) a.here (y.1 ∙ ap BEGIN (no_parts y.0 (y.2 ∙ none))) refl (code_empty xs w.«end») t
       where
         no_parts : (es : Exps) → count es ≡ 0 → es ≡ nil
         no_parts nil many = refl
@@ -201,48 +203,38 @@ module _ (s : Source) where
 
   -- ---- SET
 
-  module _ (m : Memory) {x : ℕ} {p q : Place} (r : ReadyAs s m.count p (Set x)) (past : PastCell p q) where
+  module _ {w v : Writer} {x : ℕ} (r : ReadyAs s w (Set x)) (past : Passed w v 1 0) where
     abbrev set_a : Exp
     set_a = (seen r).0
 
-    set_here : Here s m.count p (SET x set_a)
-    set_here = subst (Here s m.count p) (seen r).1 r.here
+    set_here : Here s w (SET x set_a)
+    set_here = subst (Here s w) (seen r).1 r.here
 
-    set_part : Here s m.count q set_a
+    set_part : Here s v set_a
     set_part =
         record {
           stand = subst (λ k. CellsIn s.cells k (encode set_a)) (sym past.next_is) set_here.stand.1;
-          room = omega (arith, set_here.room, past.end_is);
+          room = omega (arith, set_here.room, past.end_is, past.kept.same_count);
         }
 
-    pub set_ready : Ready s m.count q
+    pub set_ready : Ready s v
     set_ready = record { e = set_a; here = set_part }
 
-    module _ {m₁ : Memory} {t : Place} (part : Emits s m m₁ q t) where
-      set_told : Told m m₁ q t set_a
+    module _ {w₁ : Writer} (part : Emits s v w₁) where
+      set_told : Told v w₁ set_a
       set_told = part.told set_a set_part
 
-      pub set_room : t.«end» < m₁.count
-      set_room = omega (arith, set_here.room, past.end_is, set_told.wrote.kept.same_count, ends set_a set_told)
+      pub set_room : w₁.«end» < w₁.count
+      set_room = omega (arith, set_here.room, past.end_is, past.kept.same_count, part.kept.same_count, ends set_a set_told)
 
-      pub set_done : {m₂ : Memory} {u : Place} {y : Instr} → y ≡ store (place xs x) x → Emitted m₁ m₂ t 0 (y ∷ []) u → Emits s m m₂ p u
-      set_done {m₂} {u} {y} y_is put =
-          emits set_here (same (cell_then past (both set_told put (omega (arith, set_room, set_told.wrote.kept.same_count, put.end_is)))) (omega arith)
-          ((λ i. code xs set_a (past.end_is i) ++ (y_is i ∷ [])) ∙ code_set xs x set_a p.«end»))
+      pub set_done : {w₂ : Writer} {y : Instr} → y ≡ store (place xs x) x → Emitted w₁ w₂ 0 (y ∷ []) → Emits s w w₂
+      set_done {w₂} {y} y_is put =
+          emits set_here (same (cell_then past (both set_told put (omega (arith, set_room, part.kept.same_count, put.end_is)))) (omega arith)
+          ((λ i. code xs set_a (past_end past i) ++ (y_is i ∷ [])) ∙ code_set xs x set_a w.«end»))
 
   -- ---- IF
 
-  -- the place after a gap of one instruction
-  abbrev past_gap : Place → Place
-  past_gap t = record { next = t.next; «end» = t.«end» + 1 }
-
-  gap : (t : Place) → PastInstr t (past_gap t)
-  gap t = record { next_is = refl; end_is = refl }
-
-  kept_same : {m : Memory} → Kept m m
-  kept_same = record { same_bytes = refl; same_count = refl }
-
-  module _ (m : Memory) {p q : Place} (r : ReadyAs s m.count p If) (past : PastCell p q) where
+  module _ {w v : Writer} (r : ReadyAs s w If) (past : Passed w v 1 0) where
     abbrev if_c : Exp
     if_c = (seen r).0
 
@@ -252,125 +244,154 @@ module _ (s : Source) where
     abbrev if_b : Exp
     if_b = (seen r).2
 
-    if_here : Here s m.count p (IF if_c if_a if_b)
-    if_here = subst (Here s m.count p) (seen r).3 r.here
+    if_here : Here s w (IF if_c if_a if_b)
+    if_here = subst (Here s w) (seen r).3 r.here
 
-    pub if_test_ready : Ready s m.count q
-    if_test_ready = record { e = if_c; here = leads (p.next + 1) if_c (encode if_a ++ encode if_b) if_here.stand.1 past.next_is (omega (arith, if_here.room, past.end_is)) }
+    -- room for three parts and two jumps
+    if_room : v.«end» + (weight if_c + weight if_a + weight if_b + 2) ≤ v.count
+    if_room = omega (arith, if_here.room, past.end_is, past.kept.same_count)
 
-    module _ {m₁ : Memory} {t : Place} (test : Emits s m m₁ q t) where
-      if_test_told : Told m m₁ q t if_c
+    pub if_test_ready : Ready s v
+    if_test_ready = record { e = if_c; here = leads (w.next + 1) if_c (encode if_a ++ encode if_b) if_here.stand.1 past.next_is (omega (arith, if_room)) }
+
+    module _ {w₁ : Writer} (test : Emits s v w₁) where
+      if_test_told : Told v w₁ if_c
       unfolding if_test_ready
       if_test_told = test.told if_c if_test_ready.here
 
-      if_rest : {t' : Place} → PastInstr t t' → CellsIn s.cells t'.next (encode if_a ++ encode if_b)
-      if_rest {t'} past_t =
-          after (p.next + 1) (encode if_c) (encode if_a ++ encode if_b) t'.next if_here.stand.1 (omega (arith, past.next_is, if_test_told.next_is, past_t.next_is))
+      pub if_test_room : w₁.«end» < w₁.count
+      if_test_room = omega (arith, if_room, ends if_c if_test_told, test.kept.same_count)
 
-      pub if_second_ready : {t' : Place} → PastInstr t t' → Ready s m₁.count t'
-      if_second_ready {t'} past_t =
-          record { e = if_a; here = leads t'.next if_a (encode if_b) (if_rest past_t) refl (omega (arith, if_here.room, past.end_is, ends if_c if_test_told, past_t.end_is, test.kept.same_count)) }
+      module _ {v₁ : Writer} (gap : Passed w₁ v₁ 0 1) where
+        if_rest : CellsIn s.cells v₁.next (encode if_a ++ encode if_b)
+        if_rest = after (w.next + 1) (encode if_c) (encode if_a ++ encode if_b) v₁.next if_here.stand.1 (omega (arith, past.next_is, if_test_told.next_is, gap.next_is))
 
-      pub if_test_room : t.«end» + 1 < m₁.count
-      if_test_room = some_room (if_second_ready (gap t)).here
+        pub if_second_ready : Ready s v₁
+        if_second_ready =
+            record { e = if_a; here = leads v₁.next if_a (encode if_b) if_rest refl (omega (arith, if_room, ends if_c if_test_told, gap.end_is, test.kept.same_count, gap.kept.same_count)) }
 
-      module _ {m₂ : Memory} {t' u : Place} (past_t : PastInstr t t') (second : Emits s m₁ m₂ t' u) where
-        if_second_told : Told m₁ m₂ t' u if_a
-        unfolding if_second_ready
-        if_second_told = second.told if_a (if_second_ready past_t).here
+        module _ {w₂ : Writer} (second : Emits s v₁ w₂) where
+          if_second_told : Told v₁ w₂ if_a
+          unfolding if_second_ready
+          if_second_told = second.told if_a if_second_ready.here
 
-        pub if_third_ready : {m₃ : Memory} {u' : Place} → Kept m₂ m₃ → PastInstr u u' → Ready s m₃.count u'
-        if_third_ready {m₃} {u'} kept past_u =
-            record {
-              e = if_b;
-              here = record {
-                stand = after t'.next (encode if_a) (encode if_b) u'.next (if_rest past_t) (omega (arith, if_second_told.next_is, past_u.next_is));
-                room = omega (arith, if_here.room, past.end_is, ends if_c if_test_told, past_t.end_is, ends if_a if_second_told, past_u.end_is, test.kept.same_count, second.kept.same_count, kept.same_count);
-              };
-            }
+          if_third_room : w₂.«end» + 1 + weight if_b ≤ w₂.count
+          if_third_room = omega (arith, if_room, ends if_c if_test_told, gap.end_is, ends if_a if_second_told, test.kept.same_count, gap.kept.same_count, second.kept.same_count)
 
-        pub if_second_room : u.«end» + 1 < m₂.count
-        if_second_room = some_room (if_third_ready kept_same (gap u)).here
+          pub if_second_room : w₂.«end» < w₂.count
+          if_second_room = omega (arith, if_third_room)
 
-        pub if_done : {m₃ m₄ m₅ : Memory} {u' v : Place} → Fill m₂ m₃ t.«end» (Jz (u.«end» + 1)) → PastInstr u u' → Emits s m₃ m₄ u' v → Fill m₄ m₅ u.«end» (Jump v.«end») → Emits s m m₅ p v
-        unfolding if_third_ready
-        if_done {m₃} {m₄} {m₅} {u'} {v} put₁ past_u last put₂ =
-            let c = if_c in
-            let a = if_a in
-            let b = if_b in
-            let x = if_test_told in
-            let y = if_second_told in
-            let ready = if_third_ready put₁.kept past_u in
-            let z = last.told b ready.here in
-            let fits : v.«end» ≤ m.count = omega (arith, ready.here.room, ends b z, test.kept.same_count, second.kept.same_count, put₁.kept.same_count) in
-            let fits_u : u.«end» ≤ m.count = omega (arith, past_u.end_is, z.end_is) in
-            emits if_here (same (cell_then past (filled (filled x past_t y put₁ fits_u) past_u z put₂ fits)) (simp length-append (omega arith))
-            (code_if xs c a b q.«end» t'.«end» u'.«end» _ _ (omega (arith, past_t.end_is, x.end_is)) (omega (arith, past_u.end_is, y.end_is)) (sym past_u.end_is) z.end_is
-            ∙ ap (code xs (IF c a b)) past.end_is))
+          module _ {v₂ u : Writer} {p : ℕ} (gap₂ : Passed w₂ v₂ 0 1) (put : Put v₂ u p (Jz v₂.«end»)) where
+            pub if_third_ready : Ready s u
+            if_third_ready =
+                record {
+                  e = if_b;
+                  here = record {
+                    stand = after v₁.next (encode if_a) (encode if_b) u.next if_rest (omega (arith, if_second_told.next_is, gap₂.next_is, put.next_is));
+                    room = omega (arith, if_third_room, gap₂.end_is, put.end_is, gap₂.kept.same_count, put.wrote.kept.same_count);
+                  };
+                }
+
+            pub if_done : {w₃ w₄ : Writer} {q : ℕ} → p ≡ w₁.«end» → q ≡ w₂.«end» → Emits s u w₃ → Put w₃ w₄ q (Jump w₃.«end») → Emits s w w₄
+            unfolding if_third_ready
+            if_done {w₃} {w₄} {q} p_is q_is third put₂ =
+                let c = if_c in
+                let a = if_a in
+                let b = if_b in
+                let x = if_test_told in
+                let y = if_second_told in
+                let z = third.told b if_third_ready.here in
+                let to : u.«end» ≡ w₂.«end» + 1 = omega (arith, gap₂.end_is, put.end_is) in
+                let counts : w₂.count ≡ v.count = second.kept.same_count ∙ gap.kept.same_count ∙ test.kept.same_count in
+                let fits : w₂.«end» + 1 + weight b ≤ v.count = omega (arith, if_third_room, counts) in
+                let ys = Jz v₂.«end» ∷ code xs a v₁.«end» in
+                let zs = code xs b u.«end» in
+                let two : Wrote v u v.«end» (code xs c v.«end» ++ ys) = filled x.wrote (passed_then gap y.wrote) (passed_then gap₂ put.wrote) (p_is ∙ x.end_is) (omega (arith, gap.end_is, p_is)) (omega (arith, fits, y.end_is)) in
+                let long : w₂.«end» ≡ v.«end» + length (code xs c v.«end» ++ ys) = omega (arith, x.end_is, gap.end_is, y.end_is, length-append (code xs c v.«end») ys) in
+                let all : Emitted v w₄ (length (encode c) + length (encode a) + length (encode b)) ((code xs c v.«end» ++ ys) ++ (Jump w₃.«end» ∷ zs)) =
+                record {
+                  next_is = omega (arith, x.next_is, gap.next_is, y.next_is, gap₂.next_is, put.next_is, z.next_is, put₂.next_is);
+                  end_is = omega (arith, long, to, z.end_is, put₂.end_is, length-append (code xs c v.«end» ++ ys) (Jump w₃.«end» ∷ zs));
+                  wrote = filled two z.wrote put₂.wrote (q_is ∙ long) (omega (arith, to, q_is)) (omega (arith, fits, to, length-code xs b u.«end»));
+                } in
+                emits if_here (same (cell_then past all) (simp length-append (omega arith))
+                (code_if xs c a b v.«end» v₁.«end» u.«end» v₂.«end» w₃.«end» (omega (arith, gap.end_is, x.end_is)) (omega (arith, to, y.end_is)) (sym put.end_is) z.end_is ∙ ap (code xs (IF c a b)) (past_end past)))
 
   -- ---- WHILE
 
-  module _ (m : Memory) {p q : Place} (r : ReadyAs s m.count p While) (past : PastCell p q) where
+  module _ {w v : Writer} (r : ReadyAs s w While) (past : Passed w v 1 0) where
     abbrev while_c : Exp
     while_c = (seen r).0
 
     abbrev while_b : Exp
     while_b = (seen r).1
 
-    while_here : Here s m.count p (WHILE while_c while_b)
-    while_here = subst (Here s m.count p) (seen r).2 r.here
+    while_here : Here s w (WHILE while_c while_b)
+    while_here = subst (Here s w) (seen r).2 r.here
 
-    pub while_test_ready : Ready s m.count q
-    while_test_ready = record { e = while_c; here = leads (p.next + 1) while_c (encode while_b) while_here.stand.1 past.next_is (omega (arith, while_here.room, past.end_is)) }
+    -- room for two parts and four instructions
+    while_room : v.«end» + (weight while_c + weight while_b + 4) ≤ v.count
+    while_room = omega (arith, while_here.room, past.end_is, past.kept.same_count)
 
-    module _ {m₁ : Memory} {t : Place} (test : Emits s m m₁ q t) where
-      while_test_told : Told m m₁ q t while_c
+    pub while_test_ready : Ready s v
+    while_test_ready = record { e = while_c; here = leads (w.next + 1) while_c (encode while_b) while_here.stand.1 past.next_is (omega (arith, while_room)) }
+
+    module _ {w₁ : Writer} (test : Emits s v w₁) where
+      while_test_told : Told v w₁ while_c
       unfolding while_test_ready
       while_test_told = test.told while_c while_test_ready.here
 
-      pub while_body_ready : {t' : Place} → PastInstr t t' → Ready s m₁.count t'
-      while_body_ready {t'} past_t =
-          record {
-            e = while_b;
-            here = record {
-              stand = after (p.next + 1) (encode while_c) (encode while_b) t'.next while_here.stand.1 (omega (arith, past.next_is, while_test_told.next_is, past_t.next_is));
-              room = omega (arith, while_here.room, past.end_is, ends while_c while_test_told, past_t.end_is, test.kept.same_count);
-            };
-          }
+      pub while_test_room : w₁.«end» < w₁.count
+      while_test_room = omega (arith, while_room, ends while_c while_test_told, test.kept.same_count)
 
-      pub while_test_room : t.«end» + 1 < m₁.count
-      while_test_room = some_room (while_body_ready (gap t)).here
+      module _ {v₁ : Writer} (gap : Passed w₁ v₁ 0 1) where
+        pub while_body_ready : Ready s v₁
+        while_body_ready =
+            record {
+              e = while_b;
+              here = record {
+                stand = after (w.next + 1) (encode while_c) (encode while_b) v₁.next while_here.stand.1 (omega (arith, past.next_is, while_test_told.next_is, gap.next_is));
+                room = omega (arith, while_room, ends while_c while_test_told, gap.end_is, test.kept.same_count, gap.kept.same_count);
+              };
+            }
 
-      module _ {m₂ : Memory} {t' u : Place} (past_t : PastInstr t t') (body : Emits s m₁ m₂ t' u) where
-        while_body_told : Told m₁ m₂ t' u while_b
-        unfolding while_body_ready
-        while_body_told = body.told while_b (while_body_ready past_t).here
+        module _ {w₂ : Writer} (body : Emits s v₁ w₂) where
+          while_body_told : Told v₁ w₂ while_b
+          unfolding while_body_ready
+          while_body_told = body.told while_b while_body_ready.here
 
-        pub while_body_room : u.«end» + 3 ≤ m₂.count
-        while_body_room = omega (arith, while_here.room, past.end_is, ends while_c while_test_told, past_t.end_is, ends while_b while_body_told, test.kept.same_count, body.kept.same_count)
+          pub while_body_room : w₂.«end» + 3 ≤ w₂.count
+          while_body_room = omega (arith, while_room, ends while_c while_test_told, gap.end_is, ends while_b while_body_told, test.kept.same_count, gap.kept.same_count, body.kept.same_count)
 
-        pub while_done : {m₃ m₄ m₅ m₆ : Memory} {v w o : Place} {k : ℕ} → Fill m₂ m₃ t.«end» (Jz (u.«end» + 2)) → Emitted m₃ m₄ u 0 (Pop ∷ []) v → k ≡ p.«end» → Emitted m₄ m₅ v 0 (Jump k ∷ []) w → Emitted m₅ m₆ w 0 (Push (pos 0) ∷ []) o → Emits s m m₆ p o
-        while_done {m₃} {m₄} {m₅} {m₆} {v} {w} {o} {k} put pop k_is jump push =
-            let c = while_c in
-            let b = while_b in
-            let x = while_test_told in
-            let y = while_body_told in
-            let m₃_is : m₃.count ≡ m.count = put.kept.same_count ∙ body.kept.same_count ∙ test.kept.same_count in
-            let fits : o.«end» ≤ m.count = omega (arith, while_body_room, pop.end_is, jump.end_is, push.end_is, put.kept.same_count) in
-            let last : Emitted m₃ m₆ u 0 (Pop ∷ Jump k ∷ Push (pos 0) ∷ []) o = both pop (both jump push (omega (arith, pop.wrote.kept.same_count))) (omega arith) in
-            emits while_here (same (cell_then past (both (filled x past_t y put (omega (arith, pop.end_is, jump.end_is, push.end_is))) last fits)) (simp length-append (omega arith))
-            (code_while xs c b q.«end» t'.«end» _ k (omega (arith, past_t.end_is, x.end_is)) (omega (arith, y.end_is)) (k_is ∙ sym past.end_is) ∙ ap (code xs (WHILE c b)) past.end_is))
+          pub while_done : {w₃ w₄ w₅ w₆ : Writer} {k p : ℕ} → k ≡ w.«end» → p ≡ w₁.«end» → Emitted w₂ w₃ 0 (Pop ∷ []) → Emitted w₃ w₄ 0 (Jump k ∷ []) → Put w₄ w₅ p (Jz w₄.«end») → Emitted w₅ w₆ 0 (Push (pos 0) ∷ []) → Emits s w w₆
+          while_done {w₃} {w₄} {w₅} {w₆} {k} {p} k_is p_is pop jump put push =
+              let c = while_c in
+              let b = while_b in
+              let x = while_test_told in
+              let y = while_body_told in
+              let counts : w₂.count ≡ v.count = body.kept.same_count ∙ gap.kept.same_count ∙ test.kept.same_count in
+              let back : Emitted v₁ w₄ (length (encode b)) (code xs b v₁.«end» ++ (Pop ∷ Jump k ∷ [])) =
+              same (both y (both pop jump (omega (arith, while_body_room, pop.end_is, jump.end_is))) (omega (arith, while_body_room, pop.end_is, jump.end_is, body.kept.same_count))) (omega arith) refl in
+              let ys = Jz w₄.«end» ∷ (code xs b v₁.«end» ++ (Pop ∷ Jump k ∷ [])) in
+              let all : Emitted v w₅ (length (encode c) + length (encode b)) (code xs c v.«end» ++ ys) =
+              record {
+                next_is = omega (arith, x.next_is, gap.next_is, back.next_is, put.next_is);
+                end_is = omega (arith, x.end_is, gap.end_is, back.end_is, put.end_is, length-append (code xs c v.«end») ys);
+                wrote = filled x.wrote (passed_then gap back.wrote) put.wrote (p_is ∙ x.end_is) (omega (arith, gap.end_is, p_is)) (omega (arith, while_body_room, pop.end_is, jump.end_is, back.end_is, counts));
+              } in
+              emits while_here (same (cell_then past (both all push (omega (arith, while_body_room, pop.end_is, jump.end_is, put.end_is, push.end_is, counts)))) (simp length-append (omega arith))
+              (code_while xs c b v.«end» v₁.«end» w₄.«end» k (omega (arith, gap.end_is, x.end_is)) (omega (arith, y.end_is, pop.end_is, jump.end_is)) (k_is ∙ sym (past_end past)) ∙ ap (code xs (WHILE c b)) (past_end past)))
 
   -- ---- lists
 
-  pub list_none : {role : Role} {m : Memory} {k : ℕ} {p : Place} → k ≡ 0 → EmitsList s role m m p k p
-  list_none {role} {m} {k} {p} none = record { kept = kept_same; told = λ es many h. go es many }
+  pub list_none : {role : Role} {w : Writer} {k : ℕ} → k ≡ 0 → EmitsList s role w w k
+  list_none {role} {w} {k} none = record { kept = (nothing {w = w}).wrote.kept; told = λ es many h. go es many }
     where
-      go : (es : Exps) → count es ≡ k → ToldList role m m p p es
-      go nil many = same nothing refl (code_none role xs p.«end»)
+      go : (es : Exps) → count es ≡ k → ToldList role w w es
+      go nil many = same nothing refl (code_none role xs w.«end»)
       go (cons e es) many = absurd (omega arith)
 
-  module _ (m : Memory) {role : Role} {k : ℕ} {p : Place} (some : 0 < k) (r : ReadyList s role m.count p k) where
+  module _ {role : Role} {w : Writer} {k : ℕ} (some : 0 < k) (r : ReadyList s role w k) where
     list_split : Split k r.es
     list_split = split some r.es r.many
 
@@ -380,112 +401,111 @@ module _ (s : Source) where
     abbrev list_es : Exps
     list_es = list_split.es
 
-    list_here : HereList s role m.count p (cons list_e list_es)
-    list_here = subst (HereList s role m.count p) list_split.is r.here
+    list_here : HereList s role w (cons list_e list_es)
+    list_here = subst (HereList s role w) list_split.is r.here
 
-    list_heft : p.«end» + (length (before role) + weight list_e + heft role list_es) ≤ m.count
+    list_heft : w.«end» + (length (before role) + weight list_e + heft role list_es) ≤ w.count
     list_heft = omega (arith, list_here.room, heft_more role list_e list_es)
 
-    pub list_room : p.«end» + length (before role) ≤ m.count
-    list_room = omega (arith, list_heft)
+    module _ {v : Writer} (begin : Emitted w v 0 (before role)) where
+      pub list_first_ready : Ready s v
+      list_first_ready = record { e = list_e; here = leads w.next list_e (encodes list_es) list_here.stand (omega (arith, begin.next_is)) (omega (arith, list_heft, begin.end_is, begin.wrote.kept.same_count)) }
 
-    module _ {m₀ : Memory} {b : Place} (begin : Emitted m m₀ p 0 (before role) b) where
-      pub list_first_ready : Ready s m₀.count b
-      list_first_ready = record { e = list_e; here = leads p.next list_e (encodes list_es) list_here.stand (omega (arith, begin.next_is)) (omega (arith, list_heft, begin.end_is, begin.wrote.kept.same_count)) }
-
-      module _ {m₁ : Memory} {t : Place} (first : Emits s m₀ m₁ b t) where
-        list_first_told : Told m₀ m₁ b t list_e
+      module _ {w₁ : Writer} (first : Emits s v w₁) where
+        list_first_told : Told v w₁ list_e
         unfolding list_first_ready
         list_first_told = first.told list_e list_first_ready.here
 
-        pub list_rest_ready : ReadyList s role m₁.count t (k - 1)
+        pub list_rest_ready : ReadyList s role w₁ (k - 1)
         list_rest_ready =
             record {
               es = list_es;
               many = list_split.many;
               here = record {
-                stand = after p.next (encode list_e) (encodes list_es) t.next list_here.stand (omega (arith, begin.next_is, list_first_told.next_is));
+                stand = after w.next (encode list_e) (encodes list_es) w₁.next list_here.stand (omega (arith, begin.next_is, list_first_told.next_is));
                 room = omega (arith, list_heft, begin.end_is, ends list_e list_first_told, begin.wrote.kept.same_count, first.kept.same_count);
               };
             }
 
-        pub list_done : {m₂ : Memory} {u : Place} → EmitsList s role m₁ m₂ t (k - 1) u → EmitsList s role m m₂ p k u
+        pub list_done : {w₂ : Writer} → EmitsList s role w₁ w₂ (k - 1) → EmitsList s role w w₂ k
         unfolding list_rest_ready
-        list_done {m₂} {u} others =
+        list_done {w₂} others =
             let x = list_first_told in
             let y = others.told list_es list_split.many list_rest_ready.here in
-            let fits : u.«end» ≤ m.count = omega (arith, list_heft, begin.end_is, ends list_e x, ends_list role list_es y) in
-            emits_list (ap count (sym list_split.is) ∙ r.many) list_here (same (both begin (both x y (omega (arith, begin.wrote.kept.same_count))) fits) (simp length-append (omega arith)) (code_more role xs list_e list_es p.«end» b.«end» t.«end» begin.end_is x.end_is))
+            let fits : w₂.«end» ≤ w.count = omega (arith, list_heft, begin.end_is, ends list_e x, ends_list role list_es y) in
+            emits_list (ap count (sym list_split.is) ∙ r.many) list_here (same (both begin (both x y (omega (arith, begin.wrote.kept.same_count))) fits) (simp length-append (omega arith)) (code_more role xs list_e list_es w.«end» v.«end» w₁.«end» begin.end_is x.end_is))
 
   -- ---- BEGIN
 
-  module _ (m : Memory) {k : ℕ} {p q : Place} (some : 0 < k) (r : ReadyAs s m.count p (Begin k)) (past : PastCell p q) where
+  module _ {w v : Writer} {k : ℕ} (some : 0 < k) (r : ReadyAs s w (Begin k)) (past : Passed w v 1 0) where
     parts : Split k (seen r).0
     parts = split some (seen r).0 (seen r).2
 
-    parts_here : Here s m.count p (BEGIN (cons parts.e parts.es))
-    parts_here = subst (λ es. Here s m.count p (BEGIN es)) parts.is (subst (Here s m.count p) (seen r).1 r.here)
+    parts_here : Here s w (BEGIN (cons parts.e parts.es))
+    parts_here = subst (λ es. Here s w (BEGIN es)) parts.is (subst (Here s w) (seen r).1 r.here)
 
-    pub begin_first_ready : Ready s m.count q
-    begin_first_ready = record { e = parts.e; here = leads (p.next + 1) parts.e (encodes parts.es) parts_here.stand.1 past.next_is (omega (arith, parts_here.room, past.end_is)) }
+    pub begin_first_ready : Ready s v
+    begin_first_ready =
+        record { e = parts.e; here = leads (w.next + 1) parts.e (encodes parts.es) parts_here.stand.1 past.next_is (omega (arith, parts_here.room, past.end_is, past.kept.same_count)) }
 
-    module _ {m₁ : Memory} {t : Place} (first : Emits s m m₁ q t) where
-      begin_first_told : Told m m₁ q t parts.e
+    module _ {w₁ : Writer} (first : Emits s v w₁) where
+      begin_first_told : Told v w₁ parts.e
       unfolding begin_first_ready
       begin_first_told = first.told parts.e begin_first_ready.here
 
-      pub begin_rest_ready : ReadyList s Part m₁.count t (k - 1)
+      pub begin_rest_ready : ReadyList s Part w₁ (k - 1)
       begin_rest_ready =
           record {
             es = parts.es;
             many = parts.many;
             here = record {
-              stand = after (p.next + 1) (encode parts.e) (encodes parts.es) t.next parts_here.stand.1 (omega (arith, past.next_is, begin_first_told.next_is));
-              room = omega (arith, parts_here.room, past.end_is, ends parts.e begin_first_told, first.kept.same_count);
+              stand = after (w.next + 1) (encode parts.e) (encodes parts.es) w₁.next parts_here.stand.1 (omega (arith, past.next_is, begin_first_told.next_is));
+              room = omega (arith, parts_here.room, past.end_is, ends parts.e begin_first_told, past.kept.same_count, first.kept.same_count);
             };
           }
 
-      pub begin_done : {m₂ : Memory} {u : Place} → EmitsList s Part m₁ m₂ t (k - 1) u → Emits s m m₂ p u
+      pub begin_done : {w₂ : Writer} → EmitsList s Part w₁ w₂ (k - 1) → Emits s w w₂
       unfolding begin_rest_ready
-      begin_done {m₂} {u} others =
+      begin_done {w₂} others =
           let x = begin_first_told in
           let ready = begin_rest_ready in
           let y = others.told parts.es parts.many ready.here in
           emits parts_here (same (cell_then past (both x y (omega (arith, ready.here.room, ends_list Part parts.es y, first.kept.same_count)))) (simp length-append (omega arith))
-          (code_begin xs parts.e parts.es q.«end» t.«end» x.end_is ∙ ap (code xs (BEGIN (cons parts.e parts.es))) past.end_is))
+          (code_begin xs parts.e parts.es v.«end» w₁.«end» x.end_is ∙ ap (code xs (BEGIN (cons parts.e parts.es))) (past_end past)))
 
   -- ---- APPLY
 
-  module _ (m : Memory) {f k : ℕ} {p q : Place} (r : ReadyAs s m.count p (Apply f k)) (past : PastCell p q) where
+  module _ {w v : Writer} {f k : ℕ} (r : ReadyAs s w (Apply f k)) (past : Passed w v 1 0) where
     abbrev apply_es : Exps
     apply_es = (seen r).0
 
-    apply_here : Here s m.count p (APPLY f apply_es)
-    apply_here = subst (Here s m.count p) (seen r).1 r.here
+    apply_here : Here s w (APPLY f apply_es)
+    apply_here = subst (Here s w) (seen r).1 r.here
 
-    module _ {m₁ : Memory} {t : Place} (find : Emitted m m₁ q 0 (Find f ∷ []) t) where
-      pub apply_list_ready : ReadyList s Argument m₁.count t k
+    module _ {w₁ : Writer} (find : Emitted v w₁ 0 (Find f ∷ [])) where
+      pub apply_list_ready : ReadyList s Argument w₁ k
       apply_list_ready =
           record {
             es = apply_es;
             many = (seen r).2;
             here = record {
               stand = subst (λ k. CellsIn s.cells k (encodes apply_es)) (omega (arith, past.next_is, find.next_is)) apply_here.stand.1;
-              room = omega (arith, apply_here.room, past.end_is, find.end_is, find.wrote.kept.same_count);
+              room = omega (arith, apply_here.room, past.end_is, find.end_is, past.kept.same_count, find.wrote.kept.same_count);
             };
           }
 
-      module _ {m₂ : Memory} {u : Place} (list : EmitsList s Argument m₁ m₂ t k u) where
-        apply_told : ToldList Argument m₁ m₂ t u apply_es
+      module _ {w₂ : Writer} (list : EmitsList s Argument w₁ w₂ k) where
+        apply_told : ToldList Argument w₁ w₂ apply_es
         unfolding apply_list_ready
         apply_told = list.told apply_es (seen r).2 apply_list_ready.here
 
-        pub apply_room : u.«end» < m₂.count
-        apply_room = omega (arith, apply_here.room, past.end_is, find.end_is, ends_list Argument apply_es apply_told, find.wrote.kept.same_count, list.kept.same_count)
+        pub apply_room : w₂.«end» < w₂.count
+        apply_room =
+            omega (arith, apply_here.room, past.end_is, find.end_is, ends_list Argument apply_es apply_told, past.kept.same_count, find.wrote.kept.same_count, list.kept.same_count)
 
-        pub apply_done : {m₃ : Memory} {o : Place} → Emitted m₂ m₃ u 0 (Call f k ∷ []) o → Emits s m m₃ p o
-        apply_done {m₃} {o} call =
+        pub apply_done : {w₃ : Writer} → Emitted w₂ w₃ 0 (Call f k ∷ []) → Emits s w w₃
+        apply_done {w₃} call =
             let x = apply_told in
-            let fits : o.«end» ≤ m.count = omega (arith, apply_room, call.end_is, find.wrote.kept.same_count, list.kept.same_count) in
+            let fits : w₃.«end» ≤ v.count = omega (arith, apply_room, call.end_is, find.wrote.kept.same_count, list.kept.same_count) in
             emits apply_here (same (cell_then past (both find (both x call (omega (arith, find.wrote.kept.same_count))) fits)) (omega arith)
-            ((λ i. Find f ∷ (arguments xs apply_es t.«end» ++ (Call f (sym (seen r).2 i) ∷ []))) ∙ code_apply xs f apply_es q.«end» t.«end» find.end_is ∙ ap (code xs (APPLY f apply_es)) past.end_is))
+            ((λ i. Find f ∷ (arguments xs apply_es w₁.«end» ++ (Call f (sym (seen r).2 i) ∷ []))) ∙ code_apply xs f apply_es v.«end» w₁.«end» find.end_is ∙ ap (code xs (APPLY f apply_es)) (past_end past)))

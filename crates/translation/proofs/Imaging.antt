@@ -13,25 +13,21 @@ use Rattle.format.specs.Instrs.{code as code_of, operand}
 use Rattle.translator.specs.declared.table.Table.{Table}
 use Rattle.translation.specs.declared.emit.Source.{Source}
 use Rattle.translator.specs.declared.cells.Cells.{Cells}
-use Rattle.translation.specs.declared.memory.Memory.{Memory}
-use Rattle.translation.specs.declared.memory.Place.{Place}
+use Rattle.translation.specs.declared.writer.Writer.{Writer}
 use Rattle.translator.specs.Weight.{weight}
 use Rattle.translator.specs.Tables.{CellAt}
 use Rattle.translation.specs.Translation.{code, instrs, image_header, image}
 use Rattle.translation.specs.Standing.{CellsIn, FormalsTo, Named}
-use Rattle.translation.specs.Writing.{written, Wrote}
+use Rattle.translation.specs.Writing.{written, Emitted}
 use Rattle.translation.specs.Emission.{names, Here, Ready, Emits}
 use Rattle.translation.specs.Imaging.{IsSource, Holds, HoldsSome, CodeWritten, Imaged, last_of}
 use Rattle.translator.proofs.Places.{one_cell, cells_front, cells_back, formals_nth}
 use Rattle.translation.proofs.Coding.{length-code, length-instrs}
-use Rattle.translation.proofs.Writing.{wrote_both, written_whole, sets_is}
+use Rattle.translation.proofs.Writing.{both, written_whole, sets_is}
 
 ended : (d : Definition) → instrs d ≡ code (formals d) (body d) 0 ++ (last_of (header_of d) ∷ [])
 ended (VAL x e) = refl
 ended (DEFINE f xs e) = refl
-
-same_name : {x y : ℕ} → Formal x ≡ Formal y → x ≡ y
-same_name h = cc h
 
 module _ (r : Table) (d : Definition) (holds : Holds r d) where
   pub formals_are : r.header.formals ≡ length (formals d)
@@ -56,8 +52,9 @@ module _ (r : Table) (d : Definition) (holds : Holds r d) where
 
     one_name : (xs : List ℕ) (k e : ℕ) → length xs ≡ r.header.formals → Named t (length xs) xs → k < length xs → get_or xs k e ≡ get_or (formals d) k e
     one_name xs k e long named lt =
+        let one = one_cell (named k (omega arith)) (formal_here k (omega (arith, formals_are))) in
         get_or_default xs k e 0 lt
-        ∙ same_name (one_cell (named k (omega arith)) (formal_here k (omega (arith, formals_are))))
+        ∙ cc one
         ∙ get_or_default (formals d) k 0 e (omega (arith, formals_are))
 
     names_are : (xs : List ℕ) → length xs ≡ r.header.formals → Named t (length xs) xs → xs ≡ formals d
@@ -67,29 +64,33 @@ module _ (r : Table) (d : Definition) (holds : Holds r d) where
     body_stands =
         subst (λ k. CellsIn t k (encode (body d))) (omega (arith, formals_are, length-map (formals d) Formal)) (cells_back (cell_codes t) (cell_operands t) 0 (map Formal (formals d)) (encode (body d)) stands)
 
-module _ {r : Table} {s : Source} {p : Place} (b : IsSource r s) (next_is : p.next ≡ r.header.formals) (end_is : p.«end» ≡ 0) where
-  body_here : {n : ℕ} (d : Definition) → Holds r d → n ≡ r.count → Here s n p (body d)
-  body_here d h count_is =
-      record { stand = subst (λ k. CellsIn s.cells k (encode (body d))) (sym next_is) (body_stands r d h s.cells b.same); room = omega (arith, end_is, counted r d h) }
+module _ {r : Table} {s : Source} {w : Writer} (b : IsSource r s) (next_is : w.next ≡ r.header.formals) (end_is : w.«end» ≡ 0) (count_is : w.count ≡ r.count) where
+  body_here : (d : Definition) → Holds r d → Here s w (body d)
+  body_here d h =
+      record { stand = subst (λ k. CellsIn s.cells k (encode (body d))) (sym next_is) (body_stands r d h s.cells b.same); room = omega (arith, end_is, count_is, counted r d h) }
 
-  pub body_ready : {n : ℕ} → HoldsSome r → n ≡ r.count → Ready s n p
-  body_ready h count_is = record { e = body h.d; here = body_here h.d h.holds count_is }
+  pub body_ready : HoldsSome r → Ready s w
+  body_ready h = record { e = body h.d; here = body_here h.d h.holds }
 
-  module _ {m m₁ : Memory} {q : Place} (count_is : m.count ≡ r.count) (told : Emits s m m₁ p q) where
-    pub last_room : HoldsSome r → q.«end» < m₁.count
-    last_room h = omega (arith, (told.told (body h.d) (body_here h.d h.holds count_is)).end_is, length-code (names s) (body h.d) p.«end», end_is, counted r h.d h.holds, told.kept.same_count)
+  module _ {w₁ : Writer} (told : Emits s w w₁) where
+    body_told : (d : Definition) → Holds r d → Emitted w w₁ (length (encode (body d))) (code (names s) (body d) w.«end»)
+    body_told d h = told.told (body d) (body_here d h)
 
-    pub code_done : {m₂ : Memory} {x : Instr} {out : List ℕ} → x ≡ last_of r.header → Wrote m₁ m₂ q.«end» (x ∷ []) → out ≡ m₂.bytes.now → CodeWritten r m.bytes.now out
-    code_done {m₂} {x} {out} x_is put out_is =
+    last_room : (d : Definition) → Holds r d → w₁.«end» + 1 ≤ w.count
+    last_room d h = omega (arith, (body_told d h).end_is, length-code (names s) (body d) w.«end», end_is, count_is, counted r d h)
+
+    pub last_ready : HoldsSome r → w₁.«end» < w₁.count
+    last_ready h = omega (arith, last_room h.d h.holds, told.kept.same_count)
+
+    pub code_done : {w₂ : Writer} {x : Instr} {out : List ℕ} → x ≡ last_of r.header → Emitted w₁ w₂ 0 (x ∷ []) → out ≡ w₂.bytes.now → CodeWritten r w.bytes.now out
+    code_done {w₂} {x} {out} x_is last out_is =
         record {
           told = λ d h.
-              let t = told.told (body d) (body_here d h count_is) in
               let xs = names_are r d h s.cells b.same (names s) b.many b.named in
-              let room : q.«end» + 1 ≤ m.count = omega (arith, t.end_is, length-code (names s) (body d) p.«end», end_is, counted r d h) in
               out_is
-              ∙ (wrote_both t.wrote put t.end_is room).bytes_are
-              ∙ (λ i. written (count_is i) m.bytes.now (end_is i) (code (xs i) (body d) (end_is i) ++ ((x_is ∙ ap last_of h.header) i ∷ [])))
-              ∙ ap (written r.count m.bytes.now 0) (sym (ended d));
+              ∙ (both (body_told d h) last (omega (arith, last_room d h, last.end_is))).wrote.bytes_are
+              ∙ (λ i. written (count_is i) w.bytes.now (end_is i) (code (xs i) (body d) (end_is i) ++ ((x_is ∙ ap last_of h.header) i ∷ [])))
+              ∙ ap (written r.count w.bytes.now 0) (sym (ended d));
         }
 
 -- the header, and then the instructions

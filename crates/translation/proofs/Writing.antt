@@ -6,9 +6,8 @@ use Rattle.format.specs.declared.instr.Instr.{Instr}
 use Rattle.format.specs.Layout.{bytes4, operand_bytes}
 use Rattle.format.specs.Instrs.{code, operand}
 use Rattle.format.proofs.Bytes.{length-operands}
-use Rattle.translation.specs.declared.memory.Memory.{Memory}
-use Rattle.translation.specs.declared.memory.Place.{Place}
-use Rattle.translation.specs.Writing.{written, Kept, Wrote, Emitted, PastCell, PastInstr}
+use Rattle.translation.specs.declared.writer.Writer.{Writer}
+use Rattle.translation.specs.Writing.{written, Kept, Wrote, Emitted, Passed}
 
 sets_append : (out : List ℕ) (at : ℕ) (xs ys : List ℕ) (to : ℕ) → to ≡ at + length xs → sets out at (xs ++ ys) ≡ sets (sets out at xs) to ys
 sets_append out at [] ys to h = ap (λ k. sets out k ys) (omega arith)
@@ -114,33 +113,43 @@ put_one n out p x c ys code_is bytes_are within long =
 
 -- ---- the memory of an image
 
-module _ {m m₁ m₂ : Memory} where
-  pub kept_both : Kept m m₁ → Kept m₁ m₂ → Kept m m₂
+module _ {w w₁ w₂ : Writer} where
+  pub kept_both : Kept w w₁ → Kept w₁ w₂ → Kept w w₂
   kept_both k l = record { same_bytes = l.same_bytes ∙ k.same_bytes; same_count = l.same_count ∙ k.same_count }
 
-  pub wrote_both : {p q : ℕ} {xs ys : List Instr} → Wrote m m₁ p xs → Wrote m₁ m₂ q ys → q ≡ p + length xs → q + length ys ≤ m.count → Wrote m m₂ p (xs ++ ys)
-  wrote_both {p} {q} {xs} {ys} w v h room =
+  pub wrote_both : {p q : ℕ} {xs ys : List Instr} → Wrote w w₁ p xs → Wrote w₁ w₂ q ys → q ≡ p + length xs → q + length ys ≤ w.count → Wrote w w₂ p (xs ++ ys)
+  wrote_both {p} {q} {xs} {ys} f g h room =
       record {
-        kept = kept_both w.kept v.kept;
-        bytes_are = v.bytes_are ∙ (λ i. written (w.kept.same_count i) (w.bytes_are i) q ys) ∙ sym (written_append m.count m.bytes.now p xs q ys h room);
+        kept = kept_both f.kept g.kept;
+        bytes_are = g.bytes_are ∙ (λ i. written (f.kept.same_count i) (f.bytes_are i) q ys) ∙ sym (written_append w.count w.bytes.now p xs q ys h room);
       }
 
   -- an instruction written after those that follow it
-  wrote_back : {p q : ℕ} {x : Instr} {ys : List Instr} → Wrote m m₁ q ys → Wrote m₁ m₂ p (x ∷ []) → q ≡ p + 1 → q + length ys ≤ m.count → Wrote m m₂ p (x ∷ ys)
-  wrote_back {p} {q} {x} {ys} w v h room =
-      let n = m.count in
-      let out = m.bytes.now in
+  wrote_back : {p q : ℕ} {x : Instr} {ys : List Instr} → Wrote w w₁ q ys → Wrote w₁ w₂ p (x ∷ []) → q ≡ p + 1 → q + length ys ≤ w.count → Wrote w w₂ p (x ∷ ys)
+  wrote_back {p} {q} {x} {ys} f g h room =
+      let n = w.count in
+      let out = w.bytes.now in
       record {
-        kept = kept_both w.kept v.kept;
+        kept = kept_both f.kept g.kept;
         bytes_are =
-            v.bytes_are ∙ (λ i. written (w.kept.same_count i) (w.bytes_are i) p (x ∷ []))
+            g.bytes_are ∙ (λ i. written (f.kept.same_count i) (f.bytes_are i) p (x ∷ []))
             ∙ sym (written_comm n out p (x ∷ []) q ys (omega arith) room)
             ∙ sym (written_append n out p (x ∷ []) q ys h room);
       }
 
+  pub passed_then : {k j p : ℕ} {is : List Instr} → Passed w w₁ k j → Wrote w₁ w₂ p is → Wrote w w₂ p is
+  passed_then {k} {j} {p} {is} past g =
+      record { kept = kept_both past.kept g.kept; bytes_are = g.bytes_are ∙ (λ i. written (past.kept.same_count i) (past.bytes_are i) p is) }
+
+  -- a cell, and then more
+  pub cell_then : {k : ℕ} {is : List Instr} → Passed w w₁ 1 0 → Emitted w₁ w₂ k is → Emitted w w₂ (k + 1) is
+  cell_then {k} {is} past e =
+      let at : w₁.«end» ≡ w.«end» = omega (arith, past.end_is) in
+      record { next_is = omega (arith, past.next_is, e.next_is); end_is = omega (arith, e.end_is); wrote = subst (λ p. Wrote w w₂ p is) at (passed_then past e.wrote) }
+
   -- one piece of code after the other
-  pub both : {p q r : Place} {a b : ℕ} {xs ys : List Instr} → Emitted m m₁ p a xs q → Emitted m₁ m₂ q b ys r → r.«end» ≤ m.count → Emitted m m₂ p (a + b) (xs ++ ys) r
-  both {p} {q} {r} {a} {b} {xs} {ys} e f room =
+  pub both : {a b : ℕ} {xs ys : List Instr} → Emitted w w₁ a xs → Emitted w₁ w₂ b ys → w₂.«end» ≤ w.count → Emitted w w₂ (a + b) (xs ++ ys)
+  both {a} {b} {xs} {ys} e f room =
       record {
         next_is = omega (arith, e.next_is, f.next_is);
         end_is = omega (arith, e.end_is, f.end_is, length-append xs ys);
@@ -148,23 +157,13 @@ module _ {m m₁ m₂ : Memory} where
       }
 
 -- two pieces of code, and then the instruction between them
-pub filled : {m m₁ m₂ m₃ : Memory} {p q q' r : Place} {a b : ℕ} {xs ys : List Instr} {x : Instr} → Emitted m m₁ p a xs q → PastInstr q q' → Emitted m₁ m₂ q' b ys r → Wrote m₂ m₃ q.«end» (x ∷ []) → r.«end» ≤ m.count → Emitted m m₃ p (a + b) (xs ++ (x ∷ ys)) r
-filled {m} {m₁} {m₂} {m₃} {p} {q} {q'} {r} {a} {b} {xs} {ys} {x} e past f w room =
-    both e record {
-      next_is = omega arith;
-      end_is = omega arith;
-      wrote = wrote_back f.wrote w past.end_is (omega arith);
-    } room
-
--- a cell, and then more
-pub cell_then : {m m₁ : Memory} {p q r : Place} {k : ℕ} {is : List Instr} → PastCell p q → Emitted m m₁ q k is r → Emitted m m₁ p (k + 1) is r
-cell_then {m} {m₁} {p} {q} {r} {k} {is} past e =
-    record { next_is = omega arith; end_is = omega arith; wrote = subst (λ p. Wrote m m₁ p is) past.end_is e.wrote }
+pub filled : {w w₁ w₂ w₃ : Writer} {p q r : ℕ} {xs ys : List Instr} {x : Instr} → Wrote w w₁ p xs → Wrote w₁ w₂ q ys → Wrote w₂ w₃ r (x ∷ []) → r ≡ p + length xs → q ≡ r + 1 → q + length ys ≤ w.count → Wrote w w₃ p (xs ++ (x ∷ ys))
+filled f g h at next room = wrote_both f (wrote_back g h next (omega (arith, f.kept.same_count))) at (omega arith)
 
 -- the same, told in other words
-pub same : {m m₁ : Memory} {p r : Place} {j k : ℕ} {is js : List Instr} → Emitted m m₁ p k is r → k ≡ j → is ≡ js → Emitted m m₁ p j js r
-same {m} {m₁} {p} {r} {j} {k} {is} {js} e h is_same = subst (λ l. Emitted m m₁ p j l r) is_same (subst (λ i. Emitted m m₁ p i is r) h e)
+pub same : {w w₁ : Writer} {j k : ℕ} {is js : List Instr} → Emitted w w₁ k is → k ≡ j → is ≡ js → Emitted w w₁ j js
+same {w} {w₁} {j} {k} {is} {js} e h is_same = subst (λ l. Emitted w w₁ j l) is_same (subst (λ i. Emitted w w₁ i is) h e)
 
-pub nothing : {m : Memory} {p : Place} → Emitted m m p 0 [] p
+pub nothing : {w : Writer} → Emitted w w 0 []
 unfolding written
-nothing {m} {p} = record { next_is = omega arith; end_is = omega arith; wrote = record { kept = record { same_bytes = refl; same_count = refl }; bytes_are = refl } }
+nothing {w} = record { next_is = omega arith; end_is = omega arith; wrote = record { kept = record { same_bytes = refl; same_count = refl }; bytes_are = refl } }

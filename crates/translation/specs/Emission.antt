@@ -9,8 +9,7 @@ use Rattle.translator.specs.Weight.{weight, weights}
 use Rattle.translation.specs.declared.emit.Source.{Source}
 use Rattle.translation.specs.declared.emit.Role.{Role}
 use Rattle.translation.specs.declared.emit.Role.TheVariants.{Part, Argument}
-use Rattle.translation.specs.declared.memory.Memory.{Memory}
-use Rattle.translation.specs.declared.memory.Place.{Place}
+use Rattle.translation.specs.declared.writer.Writer.{Writer}
 use Rattle.translation.specs.Translation.{code, rest, arguments}
 use Rattle.translator.specs.InCells.{CellIn}
 use Rattle.translation.specs.Standing.{CellsIn}
@@ -19,25 +18,25 @@ use Rattle.translation.specs.Writing.{Kept, Emitted}
 abbrev pub names : Source → List ℕ
 names s = s.formals.names.now
 
--- an expression stands there, and n instructions are room for its code
-pub record Here (s : Source) (n : ℕ) (start : Place) (e : Exp) : Type 0 where
-  pub stand : CellsIn s.cells start.next (encode e)
-  pub room : start.«end» + weight e ≤ n
+-- an expression stands at the next cell, and there is room for its code
+pub record Here (s : Source) (w : Writer) (e : Exp) : Type 0 where
+  pub stand : CellsIn s.cells w.next (encode e)
+  pub room : w.«end» + weight e ≤ w.count
 
-pub record Ready (s : Source) (n : ℕ) (start : Place) : Type 0 where
+pub record Ready (s : Source) (w : Writer) : Type 0 where
   pub e : Exp
-  pub here : Here s n start e
+  pub here : Here s w e
 
 -- one that begins with this cell
-pub record ReadyAs (s : Source) (n : ℕ) (start : Place) (c : Cell) : Type 0 where
-  pub head : CellIn s.cells start.next c
+pub record ReadyAs (s : Source) (w : Writer) (c : Cell) : Type 0 where
+  pub head : CellIn s.cells w.next c
   pub e : Exp
-  pub here : Here s n start e
+  pub here : Here s w e
 
-pub record Emits (s : Source) (m m' : Memory) (start r : Place) : Type 0 where
-  pub kept : Kept m m'
-  pub further : start.next < r.next
-  pub told : (e : Exp) → Here s m.count start e → Emitted m m' start (length (encode e)) (code (names s) e start.«end») r
+pub record Emits (s : Source) (w w' : Writer) : Type 0 where
+  pub kept : Kept w w'
+  pub further : w.next < w'.next
+  pub told : (e : Exp) → Here s w e → Emitted w w' (length (encode e)) (code (names s) e w.«end»)
 
 -- what stands before each expression of a list
 abbrev pub before : Role → List Instr
@@ -53,15 +52,15 @@ abbrev pub heft : Role → Exps → ℕ
 heft Part es = count es + weights es
 heft Argument es = weights es
 
-pub record HereList (s : Source) (role : Role) (n : ℕ) (start : Place) (es : Exps) : Type 0 where
-  pub stand : CellsIn s.cells start.next (encodes es)
-  pub room : start.«end» + heft role es ≤ n
+pub record HereList (s : Source) (role : Role) (w : Writer) (es : Exps) : Type 0 where
+  pub stand : CellsIn s.cells w.next (encodes es)
+  pub room : w.«end» + heft role es ≤ w.count
 
-pub record ReadyList (s : Source) (role : Role) (n : ℕ) (start : Place) (k : ℕ) : Type 0 where
+pub record ReadyList (s : Source) (role : Role) (w : Writer) (k : ℕ) : Type 0 where
   pub es : Exps
   pub many : count es ≡ k
-  pub here : HereList s role n start es
+  pub here : HereList s role w es
 
-pub record EmitsList (s : Source) (role : Role) (m m' : Memory) (start : Place) (k : ℕ) (r : Place) : Type 0 where
-  pub kept : Kept m m'
-  pub told : (es : Exps) → count es ≡ k → HereList s role m.count start es → Emitted m m' start (length (encodes es)) (listed role (names s) es start.«end») r
+pub record EmitsList (s : Source) (role : Role) (w w' : Writer) (k : ℕ) : Type 0 where
+  pub kept : Kept w w'
+  pub told : (es : Exps) → count es ≡ k → HereList s role w es → Emitted w w' (length (encodes es)) (listed role (names s) es w.«end»)

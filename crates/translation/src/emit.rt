@@ -7,7 +7,7 @@ ghost use Rattle.translation.specs.Standing.{SomeCell};
 ghost use Rattle.translation.specs.Emission.{Ready, ReadyAs, Emits, before, ReadyList, EmitsList};
 
 use crate::formals::Formals;
-use crate::memory::{Memory, Place};
+use crate::writer::Writer;
 use format::cell::Cell;
 use format::instr::Instr;
 use language::{Function, Variable};
@@ -22,13 +22,14 @@ pub(crate) enum Role {
 
 impl Role {
     // A POP before a part, and nothing before an argument.
-    fn put_pop(self, out: &mut Memory, start: Place) -> Place
-        requires { start.end + length (before self) ≤ out.old.count }
-        ensures { Emitted out.old out.new start 0 (before self) result }
+    // A match and no closure: the contract names what stands before an expression.
+    fn put_pop(self, out: &mut Writer)
+        requires { out.old.end + length (before self) ≤ out.old.count }
+        ensures { Emitted out.old out.new 0 (before self) }
     {
         match self {
-            Role::Part => out.emit(start, Instr::Pop),
-            Role::Argument => start,
+            Role::Part => out.emit(Instr::Pop),
+            Role::Argument => {}
         }
     }
 }
@@ -40,7 +41,7 @@ pub(crate) struct Source<'a, 'b> {
     pub(crate) formals: Formals<'b>,
 }
 
-// Each method requires that an expression of its kind stands at the place. The fact names the tree, so no ghost field can hold it.
+// Each method requires that an expression of its kind stands at the writer's next cell. That ties the cells to the writer, and no one value has both.
 impl<'a, 'b> Source<'a, 'b> {
     // The cell at `at`, where there is one.
     fn cell(&self, at: u16) -> Cell
@@ -50,99 +51,108 @@ impl<'a, 'b> Source<'a, 'b> {
         self.cells.cell(at).unwrap()
     }
 
-    // Translates the expression at a place.
+    // Translates the expression at the next cell.
     #[cycle(emitting)]
-    pub(crate) fn translate_expression(&self, out: &mut Memory, start: Place) -> Place
-        requires { Ready self.now out.old.count start }
-        ensures { Emits self.now out.old out.new start result }
+    pub(crate) fn translate_expression(&self, out: &mut Writer)
+        requires { Ready self.now out.old }
+        ensures { Emits self.now out.old out.new }
     {
-        match self.cell(start.next) {
-            Cell::Literal(value) => out.emit(start.past_cell(), Instr::Push(value)),
-            Cell::Var(x) => out.emit(start.past_cell(), self.formals.load(x)),
-            Cell::Set(x) => self.translate_set(out, start, x),
-            Cell::If => self.translate_if(out, start),
-            Cell::While => self.translate_while(out, start),
-            Cell::Begin(count) => self.translate_begin(out, start, count),
-            Cell::Apply(function, count) => self.translate_apply(out, start, function, count),
+        match self.cell(out.next) {
+            Cell::Literal(value) => {
+                out.skip_cell();
+                out.emit(Instr::Push(value));
+            }
+            Cell::Var(x) => {
+                out.skip_cell();
+                out.emit(self.formals.load(x));
+            }
+            Cell::Set(x) => self.translate_set(out, x),
+            Cell::If => self.translate_if(out),
+            Cell::While => self.translate_while(out),
+            Cell::Begin(count) => self.translate_begin(out, count),
+            Cell::Apply(function, count) => self.translate_apply(out, function, count),
             Cell::Formal(_) => unreachable!(),
         }
     }
 
     #[cycle(emitting)]
-    fn translate_set(&self, out: &mut Memory, start: Place, x: Variable) -> Place
-        requires { ReadyAs self.now out.old.count start (Set x) }
-        ensures { Emits self.now out.old out.new start result }
+    fn translate_set(&self, out: &mut Writer, x: Variable)
+        requires { ReadyAs self.now out.old (Set x) }
+        ensures { Emits self.now out.old out.new }
     {
-        let part = self.translate_expression(out, start.past_cell());
-        out.emit(part, self.formals.store(x))
+        out.skip_cell();
+        self.translate_expression(out);
+        out.emit(self.formals.store(x));
     }
 
     #[cycle(emitting)]
-    fn translate_if(&self, out: &mut Memory, start: Place) -> Place
-        requires { ReadyAs self.now out.old.count start If }
-        ensures { Emits self.now out.old out.new start result }
+    fn translate_if(&self, out: &mut Writer)
+        requires { ReadyAs self.now out.old If }
+        ensures { Emits self.now out.old out.new }
     {
-        let test = self.translate_expression(out, start.past_cell());
-        let second = self.translate_expression(out, test.past_instr());
-        out.put(test.end, Instr::Jz(second.end + 1));
-        let third = self.translate_expression(out, second.past_instr());
-        out.put(second.end, Instr::Jump(third.end));
-        third
+        out.skip_cell();
+        self.translate_expression(out);
+        let test = out.reserve();
+        self.translate_expression(out);
+        let second = out.reserve();
+        out.put(test, Instr::Jz(out.end));
+        self.translate_expression(out);
+        out.put(second, Instr::Jump(out.end));
     }
 
     #[cycle(emitting)]
-    fn translate_while(&self, out: &mut Memory, start: Place) -> Place
-        requires { ReadyAs self.now out.old.count start While }
-        ensures { Emits self.now out.old out.new start result }
+    fn translate_while(&self, out: &mut Writer)
+        requires { ReadyAs self.now out.old While }
+        ensures { Emits self.now out.old out.new }
     {
-        let test = self.translate_expression(out, start.past_cell());
-        let body = self.translate_expression(out, test.past_instr());
-        out.put(test.end, Instr::Jz(body.end + 2));
-        let popped = out.emit(body, Instr::Pop);
-        let jumped = out.emit(popped, Instr::Jump(start.end));
-        out.emit(jumped, Instr::Push(0))
+        let start = out.end;
+        out.skip_cell();
+        self.translate_expression(out);
+        let exit = out.reserve();
+        self.translate_expression(out);
+        out.emit(Instr::Pop);
+        out.emit(Instr::Jump(start));
+        out.put(exit, Instr::Jz(out.end));
+        out.emit(Instr::Push(0));
     }
 
     #[cycle(emitting)]
-    fn translate_begin(&self, out: &mut Memory, start: Place, count: u16) -> Place
-        requires { ReadyAs self.now out.old.count start (Begin count) }
-        ensures { Emits self.now out.old out.new start result }
+    fn translate_begin(&self, out: &mut Writer, count: u16)
+        requires { ReadyAs self.now out.old (Begin count) }
+        ensures { Emits self.now out.old out.new }
     {
+        out.skip_cell();
         if count == 0 {
-            return out.emit(start.past_cell(), Instr::Push(0));
+            out.emit(Instr::Push(0));
+            return;
         }
-        let first = self.translate_expression(out, start.past_cell());
-        self.translate_list(out, first, Role::Part, count - 1)
+        self.translate_expression(out);
+        self.translate_list(out, Role::Part, count - 1);
     }
 
     #[cycle(emitting)]
-    fn translate_apply(
-        &self,
-        out: &mut Memory,
-        start: Place,
-        function: Function,
-        count: u8,
-    ) -> Place
-        requires { ReadyAs self.now out.old.count start (Apply function count) }
-        ensures { Emits self.now out.old out.new start result }
+    fn translate_apply(&self, out: &mut Writer, function: Function, count: u8)
+        requires { ReadyAs self.now out.old (Apply function count) }
+        ensures { Emits self.now out.old out.new }
     {
-        let found = out.emit(start.past_cell(), Instr::Find(function));
-        let arguments = self.translate_list(out, found, Role::Argument, count as u16);
-        out.emit(arguments, Instr::Call(function, count))
+        out.skip_cell();
+        out.emit(Instr::Find(function));
+        self.translate_list(out, Role::Argument, count as u16);
+        out.emit(Instr::Call(function, count));
     }
 
     // Translates `count` expressions one after the other.
     // By recursion, as lists of parts are defined: the first and the rest.
     #[cycle(emitting)]
-    fn translate_list(&self, out: &mut Memory, start: Place, role: Role, count: u16) -> Place
-        requires { ReadyList self.now role out.old.count start count }
-        ensures { EmitsList self.now role out.old out.new start count result }
+    fn translate_list(&self, out: &mut Writer, role: Role, count: u16)
+        requires { ReadyList self.now role out.old count }
+        ensures { EmitsList self.now role out.old out.new count }
     {
         if count == 0 {
-            return start;
+            return;
         }
-        let begin = role.put_pop(out, start);
-        let first = self.translate_expression(out, begin);
-        self.translate_list(out, first, role, count - 1)
+        role.put_pop(out);
+        self.translate_expression(out);
+        self.translate_list(out, role, count - 1);
     }
 }

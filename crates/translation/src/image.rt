@@ -6,7 +6,7 @@ ghost use Rattle.translation.specs.Outcome.{Translates};
 
 use crate::emit::Source;
 use crate::formals::Formals;
-use crate::memory::{Memory, Place};
+use crate::writer::Writer;
 use format::header::{Header, Kind};
 use format::instr::Instr;
 use format::layout::{HEADER_LEN, ROW_LEN};
@@ -48,21 +48,20 @@ fn write_code(table: &Table, out: &mut [u8])
     ensures { CodeWritten table.now out.old out.new }
 {
     let formals = table.header.formals;
+    // There is no heap, and a definition has no more formals.
     let mut names = [0; MAX_FORMALS as usize];
     let source = Source {
         cells: table.cells,
         formals: Formals::read(&table.cells, &mut names[..formals as usize]),
     };
-    let start = Place {
+    let mut writer = Writer {
+        bytes: out,
+        count: table.count,
         next: formals as u16,
         end: 0,
     };
-    let mut memory = Memory {
-        bytes: out,
-        count: table.count,
-    };
-    let body = source.translate_expression(&mut memory, start);
-    memory.put(body.end, last_instr(table.header));
+    source.translate_expression(&mut writer);
+    writer.emit(last_instr(table.header));
 }
 
 // The instruction that ends an image.

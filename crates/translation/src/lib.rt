@@ -4,6 +4,6 @@
 mod emit;
 mod formals;
 mod image;
-mod memory;
+mod writer;
 
 pub use image::translate;
