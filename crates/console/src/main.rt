@@ -25,7 +25,8 @@ fn main(rt: HostRuntime) -> io::Result<()> {
     let mut input = BufReader::new(heap, rt.stdin())?;
     let mut output = BufWriter::new(heap, rt.stdout())?;
     let mut line = Vec::new(heap);
-    // every loop ends, so this one counts more turns than an input can have lines
+    // Every loop ends, so this one counts more turns than an input can have lines. `split` would
+    // not tell whether the last line has its end, and would make a buffer for each.
     for _ in 0..u64::MAX {
         line.clear();
         if input.read_until(b'\n', &mut line)? == 0 {
