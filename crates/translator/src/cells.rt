@@ -33,6 +33,7 @@ impl<'a> Cells<'a> {
     }
 
     // The cell at `i`, or None where no cell stands there.
+    #[inline]
     pub fn cell(&self, i: u16) -> Option<Cell>
         ensures { MatchOption result (NoCellIn self.now i) (CellIn self.now i) }
     {
