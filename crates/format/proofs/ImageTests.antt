@@ -14,16 +14,13 @@ use Rattle.format.specs.Instrs.{NoInstr, IsInstr, Belongs, operand}
 use Rattle.language.specs.Limits.{IsValue}
 use Rattle.format.specs.Images.{ImageSized, ImageHead, InstrIn, NoInstrIn, HasInstr, AllInstrs, FirstNoInstr, ImageRefused, CODE, codes_of_image, operands_of_image, ImageIn}
 use Rattle.format.proofs.Bytes.{bytes4_injective}
-use Rattle.format.proofs.Headers.{few_formals, sizes}
+use Rattle.format.proofs.Headers.{sizes}
 
 module _ (bytes codes operands : List ℕ) (cut : Cut bytes codes operands) where
   pub few_codes : {most : ℕ} → SizedTo most bytes → length codes ≤ most
   few_codes s = omega (arith, (sizes bytes codes operands cut).0, s.few)
 
   module _ (h : Header) (at : HeaderAt bytes h) where
-    pub formals_few : h.formals < 16
-    formals_few = omega (arith, at.formals, at.headed.formals, few_formals at.headed.kind)
-
     pub some_head : 0 < h.height → h.height ≤ 2048 → ImageHead bytes
     some_head some low = record { some = omega (arith, at.height); low = omega (arith, at.height); headed = at.headed }
 

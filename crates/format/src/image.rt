@@ -16,8 +16,6 @@ pub const MAX_HEIGHT: u16 = 2048;
 pub struct Image<'a> {
     pub header: Header,
     instrs: Layout<'a>,
-    ghost number: { IsName header.number },
-    ghost formals: { header.formals < 16 },
     ghost few: { length (codes_of instrs) ≤ 6144 },
 }
 
@@ -50,6 +48,9 @@ impl<'a> Image<'a> {
     pub fn instr(&self, i: u16) -> Option<Instr>
         ensures { MatchOption result (NoInstrIn self.now i) (InstrIn self.now i) }
     {
+        // a proof knows that these are bytes once they are read
+        let _formals = self.header.formals;
+        let _number = self.header.number;
         let row = self.instrs.row(i)?;
         Instr::read(row, self.header, self.len() as u16)
     }

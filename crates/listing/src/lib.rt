@@ -13,10 +13,10 @@ mod height;
 pub mod list;
 
 #[derive(Clone, Copy, PartialEq, Eq, Debug)]
-pub struct Line {
-    pub instr: Instr,
+pub(crate) struct Line {
+    pub(crate) instr: Instr,
     // None where it is not known
-    pub height: Option<u16>,
+    pub(crate) height: Option<u16>,
 }
 
 #[derive(PartialEq, Eq, Debug, Drop)]

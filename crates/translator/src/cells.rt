@@ -26,7 +26,7 @@ impl<'a> Cells<'a> {
         Some(Cells { rows })
     }
 
-    pub(crate) fn len(&self) -> u16
+    pub fn len(&self) -> u16
         ensures { result ≡ length (cell_codes self.now) }
     {
         self.rows.len() as u16

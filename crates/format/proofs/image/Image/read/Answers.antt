@@ -3,7 +3,7 @@ use Rattle.format.specs.declared.image.Image.{Image}
 use Rattle.format.specs.declared.refusal.Refusal.{Refusal}
 use Rattle.format.specs.declared.refusal.Refusal.TheVariants.{Size, Head}
 use Rattle.format.specs.Images.{SIZE, HEAD, ImageRead, ImageAnswered}
-use Rattle.format.proofs.ImageTests.{few_codes, some_head, formals_few, refuse_code, image_in}
+use Rattle.format.proofs.ImageTests.{few_codes, some_head, refuse_code, image_in}
 use Rattle.format.proofs.OnlyImage.{answered}
 use Rattle.format.proofs.image.Image.read.Goals as goal
 
@@ -30,7 +30,7 @@ pub invariant_of-image : goal.invariant_of-image
 invariant_of-image c =
     let rows = rw c.in_ok-instrs.ensures.ok_part at c.cut_to.ensures in
     let at = rw c.in_ok-header.ensures.ok_part at c.read.ensures in
-    record { number = rw at.number at.headed.number; formals = formals_few _ _ _ rows.cut _ at; few = few_codes _ _ _ rows.cut rows.sized }
+    record { few = few_codes _ _ _ rows.cut rows.sized }
 
 pub returns-in-Some : goal.returns-in-Some
 returns-in-Some c =
