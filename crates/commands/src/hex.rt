@@ -13,7 +13,7 @@ pub enum HexError {
     OutOfMemory,
 }
 
-// By hand, so that a contract can say which error comes.
+// One for each error type, and by hand, so that a contract can say which error comes.
 impl From<AllocError> for HexError {
     ghost from_gives = { λ _ e. e ≡ OutOfMemory };
 

@@ -65,8 +65,7 @@ impl<'a> Layout<'a> {
     {
         let i = i as usize;
         let code = *self.codes.get(i)?;
-        let [a, b, c, d] = self.operands[i];
-        let operand = i32::from_le_bytes([a, b, c, d]);
+        let operand = i32::from_le_bytes(self.operands[i]);
         Some(Row { code, operand })
     }
 }

@@ -24,7 +24,7 @@ impl From<Refusal> for ListError {
     }
 }
 
-// By hand, so that a contract can say which error comes.
+// One for each error type, and by hand, so that a contract can say which error comes.
 impl From<AllocError> for ListError {
     ghost from_gives = { λ _ e. e ≡ OutOfMemory };
 

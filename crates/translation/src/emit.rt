@@ -41,7 +41,7 @@ pub(crate) struct Source<'a, 'b> {
     pub(crate) formals: Formals<'b>,
 }
 
-// Each method requires that an expression of its kind stands at the writer's next cell. That ties the cells to the writer, and no one value has both.
+// Each method for a kind of expression requires that one of that kind stands at the writer's next cell. That ties the cells to the writer, and no one value has both.
 impl<'a, 'b> Source<'a, 'b> {
     // The cell at `at`, where there is one.
     fn cell(&self, at: u16) -> Cell
