@@ -1,6 +1,5 @@
 // An image: the header and the instructions that bytes hold.
-ghost use Rattle.std.specs.Prelude.{◌≡◌, ◌<◌, ◌≤◌, length, MatchOption};
-ghost use Rattle.language.specs.Limits.{IsName};
+ghost use Rattle.std.specs.Prelude.{◌≡◌, ◌≤◌, length, MatchOption};
 ghost use Rattle.format.specs.Rows.{codes_of};
 
 use crate::header::Header;

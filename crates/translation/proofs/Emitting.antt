@@ -16,7 +16,7 @@ use Rattle.translation.specs.declared.writer.Writer.{Writer}
 use Rattle.translation.specs.Translation.{load, store, code, rest, arguments}
 use Rattle.translation.specs.Standing.{CellsIn, SomeCell}
 use Rattle.translation.specs.Writing.{Wrote, Emitted, Passed, Put}
-use Rattle.translation.specs.Emission.{names, Here, Ready, ReadyAs, Emits, before, listed, heft, HereList, ReadyList, EmitsList}
+use Rattle.translation.specs.Emission.{names, Here, Ready, ReadyAs, Emits, before, listed, listed_weight, HereList, ReadyList, EmitsList}
 use Rattle.translator.proofs.Trees.{head_of, unique, encode_size, size_some}
 use Rattle.translator.proofs.Places.{one_cell, cells_front, cells_back, meet}
 use Rattle.translator.proofs.Steps.{first, one_exp}
@@ -96,13 +96,13 @@ code_more Part xs e es p q r hq hr = ap (λ r. Pop ∷ (code xs e q ++ rest xs e
 code_more Argument xs e es p q r hq hr =
     ap (λ r. code xs e q ++ arguments xs es r) hr ∙ ap (λ q. code xs e q ++ arguments xs es (q + length (code xs e q))) (let z : q ≡ p = omega arith in z)
 
-length-listed : (role : Role) (xs : List ℕ) (es : Exps) (p : ℕ) → length (listed role xs es p) ≡ heft role es
+length-listed : (role : Role) (xs : List ℕ) (es : Exps) (p : ℕ) → length (listed role xs es p) ≡ listed_weight role es
 length-listed Part xs es p = length_rest xs es p
 length-listed Argument xs es p = length-arguments xs es p
 
-heft_more : (role : Role) (e : Exp) (es : Exps) → heft role (cons e es) ≡ length (before role) + weight e + heft role es
-heft_more Part e es = omega arith
-heft_more Argument e es = omega arith
+listed_weight-more : (role : Role) (e : Exp) (es : Exps) → listed_weight role (cons e es) ≡ length (before role) + weight e + listed_weight role es
+listed_weight-more Part e es = omega arith
+listed_weight-more Argument e es = omega arith
 
 -- a list of some expressions
 record Split (k : ℕ) (es₀ : Exps) : Type 0 where
@@ -159,7 +159,7 @@ module _ (s : Source) where
   ends : {w w' : Writer} (e : Exp) → Told w w' e → w'.«end» ≡ w.«end» + weight e
   ends {w} {w'} e t = omega (arith, t.end_is, length-code xs e w.«end»)
 
-  ends_list : {w w' : Writer} (role : Role) (es : Exps) → ToldList role w w' es → w'.«end» ≡ w.«end» + heft role es
+  ends_list : {w w' : Writer} (role : Role) (es : Exps) → ToldList role w w' es → w'.«end» ≡ w.«end» + listed_weight role es
   ends_list {w} {w'} role es t = omega (arith, t.end_is, length-listed role xs es w.«end»)
 
   -- one expression stands at a cell, and one list of so many: what is told of it is told of each
@@ -404,12 +404,12 @@ module _ (s : Source) where
     list_here : HereList s role w (cons list_e list_es)
     list_here = subst (HereList s role w) list_split.is r.here
 
-    list_heft : w.«end» + (length (before role) + weight list_e + heft role list_es) ≤ w.count
-    list_heft = omega (arith, list_here.room, heft_more role list_e list_es)
+    list_weight : w.«end» + (length (before role) + weight list_e + listed_weight role list_es) ≤ w.count
+    list_weight = omega (arith, list_here.room, listed_weight-more role list_e list_es)
 
     module _ {v : Writer} (begin : Emitted w v 0 (before role)) where
       pub list_first_ready : Ready s v
-      list_first_ready = record { e = list_e; here = leads w.next list_e (encodes list_es) list_here.stand (omega (arith, begin.next_is)) (omega (arith, list_heft, begin.end_is, begin.wrote.kept.same_count)) }
+      list_first_ready = record { e = list_e; here = leads w.next list_e (encodes list_es) list_here.stand (omega (arith, begin.next_is)) (omega (arith, list_weight, begin.end_is, begin.wrote.kept.same_count)) }
 
       module _ {w₁ : Writer} (first : Emits s v w₁) where
         list_first_told : Told v w₁ list_e
@@ -423,7 +423,7 @@ module _ (s : Source) where
               many = list_split.many;
               here = record {
                 stand = after w.next (encode list_e) (encodes list_es) w₁.next list_here.stand (omega (arith, begin.next_is, list_first_told.next_is));
-                room = omega (arith, list_heft, begin.end_is, ends list_e list_first_told, begin.wrote.kept.same_count, first.kept.same_count);
+                room = omega (arith, list_weight, begin.end_is, ends list_e list_first_told, begin.wrote.kept.same_count, first.kept.same_count);
               };
             }
 
@@ -432,7 +432,7 @@ module _ (s : Source) where
         list_done {w₂} others =
             let x = list_first_told in
             let y = others.told list_es list_split.many list_rest_ready.here in
-            let fits : w₂.«end» ≤ w.count = omega (arith, list_heft, begin.end_is, ends list_e x, ends_list role list_es y) in
+            let fits : w₂.«end» ≤ w.count = omega (arith, list_weight, begin.end_is, ends list_e x, ends_list role list_es y) in
             emits_list (ap count (sym list_split.is) ∙ r.many) list_here (same (both begin (both x y (omega (arith, begin.wrote.kept.same_count))) fits) (simp length-append (omega arith)) (code_more role xs list_e list_es w.«end» v.«end» w₁.«end» begin.end_is x.end_is))
 
   -- ---- BEGIN

@@ -48,13 +48,13 @@ listed Part xs es p = rest xs es p
 listed Argument xs es p = arguments xs es p
 
 -- how many instructions that is
-abbrev pub heft : Role → Exps → ℕ
-heft Part es = count es + weights es
-heft Argument es = weights es
+abbrev pub listed_weight : Role → Exps → ℕ
+listed_weight Part es = count es + weights es
+listed_weight Argument es = weights es
 
 pub record HereList (s : Source) (role : Role) (w : Writer) (es : Exps) : Type 0 where
   pub stand : CellsIn s.cells w.next (encodes es)
-  pub room : w.«end» + heft role es ≤ w.count
+  pub room : w.«end» + listed_weight role es ≤ w.count
 
 pub record ReadyList (s : Source) (role : Role) (w : Writer) (k : ℕ) : Type 0 where
   pub es : Exps

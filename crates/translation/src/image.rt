@@ -1,7 +1,7 @@
 // The translation of a table into an image.
 ghost use Rattle.std.specs.Prelude.{◌≡◌, ◌+◌, ◌*◌, ◌≤◌, length};
 ghost use Rattle.translation.specs.Laws.{Laws};
-ghost use Rattle.translation.specs.Imaging.{HoldsSome, IsSource, CodeWritten, Imaged, last_of};
+ghost use Rattle.translation.specs.Imaging.{HoldsSome, CodeWritten, Imaged, last_of};
 ghost use Rattle.translation.specs.Outcome.{Translates};
 
 use crate::emit::Source;
@@ -48,7 +48,7 @@ fn write_code(table: &Table, out: &mut [u8])
     ensures { CodeWritten table.now out.old out.new }
 {
     let formals = table.header.formals;
-    // There is no heap, and a definition has no more formals.
+    // On the stack, since nothing is allocated. A definition has no more formals.
     let mut names = [0; MAX_FORMALS as usize];
     let source = Source {
         cells: table.cells,

@@ -1,4 +1,4 @@
-// Bytes that may be a table: which cell is wrong, and whether two formals are equal.
+// A header and cells that may be a table: which cell is wrong, and whether two formals are equal.
 ghost use Rattle.std.specs.Prelude.{MatchBool, MatchOption};
 ghost use Rattle.translator.specs.Reading.{Repeated, NoneRepeated};
 ghost use Rattle.translator.specs.InCells.{cell_operands, RightIn, AllRightIn, FirstWrongIn, ExpIn, NoExpIn};
