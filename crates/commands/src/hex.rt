@@ -34,6 +34,14 @@ fn to_digit(c: u8) -> Option<u8>
     }
 }
 
+// The same of a digit, in place of `unwrap`, which would test each one again by a branch.
+fn value(c: u8) -> u8
+    requires { IsDigit c }
+    ensures { (result < 16) × (digit result ≡ c) }
+{
+    to_digit(c).unwrap_or(0)
+}
+
 // The index of the first character that is no digit.
 fn first_non_digit(text: &[u8]) -> Option<usize>
     ensures { FirstNonDigit text.now result }
@@ -53,7 +61,7 @@ pub fn decode(heap: Global, text: &[u8]) -> Result<Vec<u8>, HexError>
     };
     let bytes = pairs
         .iter()
-        .map(|&[high, low]| 16 * to_digit(high).unwrap() + to_digit(low).unwrap())
+        .map(|&[high, low]| 16 * value(high) + value(low))
         .collect(heap)?;
     Ok(bytes)
 }

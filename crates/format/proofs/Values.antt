@@ -14,7 +14,8 @@ bytes4_value b f =
     let n = from_le_bytes w32 b in
     ap (to_le_bytes w32) (of_z-to_z w32 n (omega (arith, f.small 0, f.small 1, f.small 2, f.small 3))) ∙ le_bytes_4 b n f.four f.small refl
 
-pub value_at : (operands : List (List ℕ)) → All FourBytes operands → (i : ℕ) → i < length operands → (v : ℤ) → SFits w32 v → v ≡ to_z w32 (from_le_bytes w32 (get_or operands i [])) → ValueAt (concat operands) (4 * i) v
-value_at operands all i lt v fits e =
+pub value_at : (operands : List (List ℕ)) → All FourBytes operands → (i j : ℕ) → j ≡ i → i < length operands → (v : ℤ) → SFits w32 v → v ≡ to_z w32 (from_le_bytes w32 (get_or operands j [])) → ValueAt (concat operands) (4 * i) v
+value_at operands all i j same lt v fits e =
     let b = get_or operands i [] in
-    record { value = fits_value v fits; four = chunk_at operands all i [] lt ∙ sym (bytes4_value b (all i [] lt)) ∙ ap bytes4 (sym e) }
+    let is : v ≡ to_z w32 (from_le_bytes w32 b) = e ∙ ap (λ k. to_z w32 (from_le_bytes w32 (get_or operands k []))) same in
+    record { value = fits_value v fits; four = chunk_at operands all i [] lt ∙ sym (bytes4_value b (all i [] lt)) ∙ ap bytes4 (sym is) }

@@ -29,16 +29,19 @@ impl Cell {
             return Some(Cell::Literal(row.operand));
         }
         let operand = u16::try_from(row.operand).ok()?;
-        match row.code {
-            1 => name(operand).map(Cell::Var),
-            2 => name(operand).map(Cell::Set),
-            3 if operand == 0 => Some(Cell::If),
-            4 if operand == 0 => Some(Cell::While),
-            5 if operand <= MAX_PARTS => Some(Cell::Begin(operand)),
-            6 => call(operand).map(|(function, count)| Cell::Apply(function, count)),
-            7 => name(operand).map(Cell::Formal),
-            _ => None,
-        }
+        Some(match row.code {
+            1 => Cell::Var(name(operand)?),
+            2 => Cell::Set(name(operand)?),
+            3 if operand == 0 => Cell::If,
+            4 if operand == 0 => Cell::While,
+            5 if operand <= MAX_PARTS => Cell::Begin(operand),
+            6 => {
+                let (function, count) = call(operand)?;
+                Cell::Apply(function, count)
+            }
+            7 => Cell::Formal(name(operand)?),
+            _ => return None,
+        })
     }
 
     // How many parts follow a cell that begins an expression. A FORMAL begins none.

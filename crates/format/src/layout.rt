@@ -36,8 +36,8 @@ impl<'a> Layout<'a> {
         if rows.len() != ROW_LEN * count {
             return None;
         }
-        let (codes, operands) = rows.split_at(count);
-        let (operands, _) = operands.as_chunks();
+        let codes = &bytes[HEADER_LEN..HEADER_LEN + count];
+        let (operands, _) = rows[count..].as_chunks();
         Some(Layout { codes, operands })
     }
 

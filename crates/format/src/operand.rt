@@ -10,7 +10,11 @@ pub(crate) const CALL_BASE: u16 = MAX_ARGUMENTS + 1;
 pub(crate) fn name(operand: u16) -> Option<u8>
     ensures { MatchOption result (64 ≤ operand) (λ x. (x ≡ operand) × (x < 64)) }
 {
-    u8::try_from(operand).ok().filter(|x| *x < NAMES)
+    if operand < NAMES as u16 {
+        Some(operand as u8)
+    } else {
+        None
+    }
 }
 
 // A function and the number of its arguments.

@@ -11,7 +11,7 @@ use Rattle.format.specs.Heights as heights
 use Rattle.format.specs.Heights.{needs, leaves, GoesTo, At, Reaches}
 use Rattle.listing.specs.declared.Line.{Line}
 use Rattle.listing.specs.Lines.{instrs_in, heights_in}
-use Rattle.listing.specs.Passes.{Tells, Adds, Notes, Here, Stepped}
+use Rattle.listing.specs.Passes.{Tells, Unknown, Adds, Notes, Here, Stepped}
 use Rattle.listing.proofs.Heights.{one_each}
 use Rattle.listing.specs.Lists.{Sound, Level, Forward, start, step, Complete}
 
@@ -81,16 +81,18 @@ pass_whole code c lines past passed level p h within from =
 abbrev pub unknown : Instr → Line
 unknown i = record { instr = i; height = None }
 
-none_told : (code : List Instr) (k h : ℕ) → Tells (heights_in (map unknown code)) k h → ⊥
+pub none_told : (code : List Instr) (k h : ℕ) → Tells (heights_in (map unknown code)) k h → ⊥
 none_told [] k h told = cc
 none_told (i ∷ code) zero h told = cc
 none_told (i ∷ code) (suc k) h told = none_told code k h told
 
+-- the instructions of such lines are those that they are made of
+pub instrs_unknown : (code : List Instr) → instrs_in (map unknown code) ≡ code
+instrs_unknown code = map-map (λ (l : Line). l.instr) unknown code ∙ map-id code
+
 -- the start: the height 0 at the first instruction, and nowhere else
-pub pass_none : (code : List Instr) (lines more : List Line) → lines ≡ map unknown code → Notes (Here 0 0) lines more → Passed code 0 more
-pass_none code lines more are notes =
-    let none : (k h : ℕ) → Tells (heights_in lines) k h → ⊥ = λ k h told. none_told code k h (rw are at told) in
-    let same : instrs_in lines ≡ code = ap instrs_in are ∙ map-map (λ (l : Line). l.instr) unknown code ∙ map-id code in
+pub pass_none : (code : List Instr) (lines more : List Line) → instrs_in lines ≡ code → Unknown lines → Notes (Here 0 0) lines more → Passed code 0 more
+pass_none code lines more same none notes =
     let adds = notes.heights in
     record {
       instrs = notes.instrs ∙ same;

@@ -9,6 +9,10 @@ use Rattle.listing.specs.Lines.{instrs_in, heights_in}
 abbrev pub Tells : List (Option ℕ) → ℕ → ℕ → Type 0
 Tells heights k h = slice_index_or heights k None ≡ Some h
 
+-- no line tells a height
+abbrev pub Unknown : List Line → Type 0
+Unknown lines = (k h : ℕ) → Tells (heights_in lines) k h → ⊥
+
 -- the height before an instruction and the height after it
 pub record After (i : Instr) (height after : ℕ) : Type 0 where
   pub rest : ℕ

@@ -2,6 +2,8 @@
 #![tactic(auto)]
 
 ghost use Rattle.std.specs.Prelude.{◌≡◌, length, IfOk};
+ghost use Rattle.listing.specs.Lines.{instrs_in};
+ghost use Rattle.listing.specs.Passes.{Unknown};
 ghost use Rattle.listing.specs.Lists.{instrs_of, Lists};
 
 use crate::height::{follow, note};
@@ -30,19 +32,28 @@ impl Listing {
     pub fn new(heap: Global, instrs: Vec<Instr>) -> Result<Listing, AllocError>
         ensures { IfOk result (Lists instrs.items) }
     {
-        let mut lines: Vec<Line> = instrs
+        let lines: Vec<Line> = instrs
             .into_iter()
             .map(|instr| Line {
                 instr,
                 height: None,
             })
             .collect(heap)?;
+        Ok(Listing::follow_all(lines))
+    }
+
+    // The listing of lines whose heights are not known yet.
+    pub(crate) fn follow_all(unknown: Vec<Line>) -> Listing
+        requires { Unknown unknown.items }
+        ensures { Lists (instrs_in unknown.items) result }
+    {
+        let mut lines = unknown;
         note(&mut lines, 0, 0);
         // by index, since an instruction's successors stand anywhere
         for p in 0..lines.len() {
             follow(&mut lines, p);
         }
-        Ok(Listing { lines })
+        Listing { lines }
     }
 
     pub fn len(&self) -> usize

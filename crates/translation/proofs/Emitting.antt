@@ -15,7 +15,7 @@ use Rattle.translation.specs.declared.emit.Role.TheVariants.{Part, Argument}
 use Rattle.translation.specs.declared.writer.Writer.{Writer}
 use Rattle.translation.specs.Translation.{load, store, code, rest, arguments}
 use Rattle.translation.specs.Standing.{CellsIn, SomeCell}
-use Rattle.translation.specs.Writing.{Wrote, Emitted, Passed, Put}
+use Rattle.translation.specs.Writing.{written, Wrote, Emitted, Passed, Put}
 use Rattle.translation.specs.Emission.{names, Here, Ready, ReadyAs, Emits, before, listed, listed_weight, HereList, ReadyList, EmitsList}
 use Rattle.translator.proofs.Trees.{head_of, unique, encode_size, size_some}
 use Rattle.translator.proofs.Places.{one_cell, cells_front, cells_back, meet}
@@ -119,6 +119,18 @@ split some (cons e es) many = record { e = e; es = es; is = refl; many = omega a
 past_end : {w v : Writer} → Passed w v 1 0 → v.«end» ≡ w.«end»
 past_end past = omega (arith, past.end_is)
 
+-- an instruction in the place that was left open for it
+pub put_last : {w v u : Writer} {p : ℕ} {x : Instr} → Passed w v 0 1 → p ≡ w.«end» → Put v u p x → Emitted w u 0 (x ∷ [])
+put_last {w} {v} {u} {p} {x} past p_is put =
+    record {
+      next_is = omega (arith, past.next_is, put.next_is);
+      end_is = omega (arith, past.end_is, put.end_is);
+      wrote = record {
+        kept = record { same_bytes = put.wrote.kept.same_bytes ∙ past.kept.same_bytes; same_count = put.wrote.kept.same_count ∙ past.kept.same_count };
+        bytes_are = put.wrote.bytes_are ∙ (λ i. written (past.kept.same_count i) (past.bytes_are i) (p_is i) (x ∷ []));
+      };
+    }
+
 module _ (s : Source) where
   abbrev xs : List ℕ
   xs = names s
@@ -169,7 +181,7 @@ module _ (s : Source) where
       record {
         kept = t.wrote.kept;
         further = omega (arith, t.next_is, encode_size e, size_some e);
-        told = λ f g. subst (Told w w') (one f h.stand g.stand) t;
+        told = λ f g. subst (Told w w') (one f h.stand g) t;
       }
 
   one_list : (at : ℕ) (es fs : Exps) → count es ≡ count fs → CellsIn s.cells at (encodes es) → CellsIn s.cells at (encodes fs) → es ≡ fs
@@ -180,7 +192,7 @@ module _ (s : Source) where
 
   emits_list : {role : Role} {w w' : Writer} {k : ℕ} {es : Exps} → count es ≡ k → HereList s role w es → ToldList role w w' es → EmitsList s role w w' k
   emits_list {role} {w} {w'} {k} {es} many h t =
-      record { kept = t.wrote.kept; told = λ fs same g. subst (ToldList role w w') (one_list w.next es fs (many ∙ sym same) h.stand g.stand) t }
+      record { kept = t.wrote.kept; told = λ fs same g. subst (ToldList role w w') (one_list w.next es fs (many ∙ sym same) h.stand g) t }
 
   -- ---- one instruction alone
 
@@ -222,7 +234,7 @@ module _ (s : Source) where
 
     module _ {w₁ : Writer} (part : Emits s v w₁) where
       set_told : Told v w₁ set_a
-      set_told = part.told set_a set_part
+      set_told = part.told set_a set_part.stand
 
       pub set_room : w₁.«end» < w₁.count
       set_room = omega (arith, set_here.room, past.end_is, past.kept.same_count, part.kept.same_count, ends set_a set_told)
@@ -257,7 +269,7 @@ module _ (s : Source) where
     module _ {w₁ : Writer} (test : Emits s v w₁) where
       if_test_told : Told v w₁ if_c
       unfolding if_test_ready
-      if_test_told = test.told if_c if_test_ready.here
+      if_test_told = test.told if_c if_test_ready.here.stand
 
       pub if_test_room : w₁.«end» < w₁.count
       if_test_room = omega (arith, if_room, ends if_c if_test_told, test.kept.same_count)
@@ -273,7 +285,7 @@ module _ (s : Source) where
         module _ {w₂ : Writer} (second : Emits s v₁ w₂) where
           if_second_told : Told v₁ w₂ if_a
           unfolding if_second_ready
-          if_second_told = second.told if_a if_second_ready.here
+          if_second_told = second.told if_a if_second_ready.here.stand
 
           if_third_room : w₂.«end» + 1 + weight if_b ≤ w₂.count
           if_third_room = omega (arith, if_room, ends if_c if_test_told, gap.end_is, ends if_a if_second_told, test.kept.same_count, gap.kept.same_count, second.kept.same_count)
@@ -300,7 +312,7 @@ module _ (s : Source) where
                 let b = if_b in
                 let x = if_test_told in
                 let y = if_second_told in
-                let z = third.told b if_third_ready.here in
+                let z = third.told b if_third_ready.here.stand in
                 let to : u.«end» ≡ w₂.«end» + 1 = omega (arith, gap₂.end_is, put.end_is) in
                 let counts : w₂.count ≡ v.count = second.kept.same_count ∙ gap.kept.same_count ∙ test.kept.same_count in
                 let fits : w₂.«end» + 1 + weight b ≤ v.count = omega (arith, if_third_room, counts) in
@@ -339,7 +351,7 @@ module _ (s : Source) where
     module _ {w₁ : Writer} (test : Emits s v w₁) where
       while_test_told : Told v w₁ while_c
       unfolding while_test_ready
-      while_test_told = test.told while_c while_test_ready.here
+      while_test_told = test.told while_c while_test_ready.here.stand
 
       pub while_test_room : w₁.«end» < w₁.count
       while_test_room = omega (arith, while_room, ends while_c while_test_told, test.kept.same_count)
@@ -358,13 +370,13 @@ module _ (s : Source) where
         module _ {w₂ : Writer} (body : Emits s v₁ w₂) where
           while_body_told : Told v₁ w₂ while_b
           unfolding while_body_ready
-          while_body_told = body.told while_b while_body_ready.here
+          while_body_told = body.told while_b while_body_ready.here.stand
 
           pub while_body_room : w₂.«end» + 3 ≤ w₂.count
           while_body_room = omega (arith, while_room, ends while_c while_test_told, gap.end_is, ends while_b while_body_told, test.kept.same_count, gap.kept.same_count, body.kept.same_count)
 
-          pub while_done : {w₃ w₄ w₅ w₆ : Writer} {k p : ℕ} → k ≡ w.«end» → p ≡ w₁.«end» → Emitted w₂ w₃ 0 (Pop ∷ []) → Emitted w₃ w₄ 0 (Jump k ∷ []) → Put w₄ w₅ p (Jz w₄.«end») → Emitted w₅ w₆ 0 (Push (pos 0) ∷ []) → Emits s w w₆
-          while_done {w₃} {w₄} {w₅} {w₆} {k} {p} k_is p_is pop jump put push =
+          pub while_done : {w₃ w₄ w₅ w₆ : Writer} {k p j : ℕ} → k ≡ w.«end» → p ≡ w₁.«end» → Emitted w₂ w₃ 0 (Pop ∷ []) → Emitted w₃ w₄ 0 (Jump k ∷ []) → Put w₄ w₅ p (Jz j) → j ≡ w₄.«end» → Emitted w₅ w₆ 0 (Push (pos 0) ∷ []) → Emits s w w₆
+          while_done {w₃} {w₄} {w₅} {w₆} {k} {p} {j} k_is p_is pop jump put j_is push =
               let c = while_c in
               let b = while_b in
               let x = while_test_told in
@@ -372,7 +384,7 @@ module _ (s : Source) where
               let counts : w₂.count ≡ v.count = body.kept.same_count ∙ gap.kept.same_count ∙ test.kept.same_count in
               let back : Emitted v₁ w₄ (length (encode b)) (code xs b v₁.«end» ++ (Pop ∷ Jump k ∷ [])) =
               same (both y (both pop jump (omega (arith, while_body_room, pop.end_is, jump.end_is))) (omega (arith, while_body_room, pop.end_is, jump.end_is, body.kept.same_count))) (omega arith) refl in
-              let ys = Jz w₄.«end» ∷ (code xs b v₁.«end» ++ (Pop ∷ Jump k ∷ [])) in
+              let ys = Jz j ∷ (code xs b v₁.«end» ++ (Pop ∷ Jump k ∷ [])) in
               let all : Emitted v w₅ (length (encode c) + length (encode b)) (code xs c v.«end» ++ ys) =
               record {
                 next_is = omega (arith, x.next_is, gap.next_is, back.next_is, put.next_is);
@@ -380,7 +392,7 @@ module _ (s : Source) where
                 wrote = filled x.wrote (passed_then gap back.wrote) put.wrote (p_is ∙ x.end_is) (omega (arith, gap.end_is, p_is)) (omega (arith, while_body_room, pop.end_is, jump.end_is, back.end_is, counts));
               } in
               emits while_here (same (cell_then past (both all push (omega (arith, while_body_room, pop.end_is, jump.end_is, put.end_is, push.end_is, counts)))) (simp length-append (omega arith))
-              (code_while xs c b v.«end» v₁.«end» w₄.«end» k (omega (arith, gap.end_is, x.end_is)) (omega (arith, y.end_is, pop.end_is, jump.end_is)) (k_is ∙ sym (past_end past)) ∙ ap (code xs (WHILE c b)) (past_end past)))
+              (code_while xs c b v.«end» v₁.«end» j k (omega (arith, gap.end_is, x.end_is)) (omega (arith, j_is, y.end_is, pop.end_is, jump.end_is)) (k_is ∙ sym (past_end past)) ∙ ap (code xs (WHILE c b)) (past_end past)))
 
   -- ---- lists
 
@@ -414,7 +426,7 @@ module _ (s : Source) where
       module _ {w₁ : Writer} (first : Emits s v w₁) where
         list_first_told : Told v w₁ list_e
         unfolding list_first_ready
-        list_first_told = first.told list_e list_first_ready.here
+        list_first_told = first.told list_e list_first_ready.here.stand
 
         pub list_rest_ready : ReadyList s role w₁ (k - 1)
         list_rest_ready =
@@ -431,7 +443,7 @@ module _ (s : Source) where
         unfolding list_rest_ready
         list_done {w₂} others =
             let x = list_first_told in
-            let y = others.told list_es list_split.many list_rest_ready.here in
+            let y = others.told list_es list_split.many list_rest_ready.here.stand in
             let fits : w₂.«end» ≤ w.count = omega (arith, list_weight, begin.end_is, ends list_e x, ends_list role list_es y) in
             emits_list (ap count (sym list_split.is) ∙ r.many) list_here (same (both begin (both x y (omega (arith, begin.wrote.kept.same_count))) fits) (simp length-append (omega arith)) (code_more role xs list_e list_es w.«end» v.«end» w₁.«end» begin.end_is x.end_is))
 
@@ -451,7 +463,7 @@ module _ (s : Source) where
     module _ {w₁ : Writer} (first : Emits s v w₁) where
       begin_first_told : Told v w₁ parts.e
       unfolding begin_first_ready
-      begin_first_told = first.told parts.e begin_first_ready.here
+      begin_first_told = first.told parts.e begin_first_ready.here.stand
 
       pub begin_rest_ready : ReadyList s Part w₁ (k - 1)
       begin_rest_ready =
@@ -469,7 +481,7 @@ module _ (s : Source) where
       begin_done {w₂} others =
           let x = begin_first_told in
           let ready = begin_rest_ready in
-          let y = others.told parts.es parts.many ready.here in
+          let y = others.told parts.es parts.many ready.here.stand in
           emits parts_here (same (cell_then past (both x y (omega (arith, ready.here.room, ends_list Part parts.es y, first.kept.same_count)))) (simp length-append (omega arith))
           (code_begin xs parts.e parts.es v.«end» w₁.«end» x.end_is ∙ ap (code xs (BEGIN (cons parts.e parts.es))) (past_end past)))
 
@@ -497,7 +509,7 @@ module _ (s : Source) where
       module _ {w₂ : Writer} (list : EmitsList s Argument w₁ w₂ k) where
         apply_told : ToldList Argument w₁ w₂ apply_es
         unfolding apply_list_ready
-        apply_told = list.told apply_es (seen r).2 apply_list_ready.here
+        apply_told = list.told apply_es (seen r).2 apply_list_ready.here.stand
 
         pub apply_room : w₂.«end» < w₂.count
         apply_room =

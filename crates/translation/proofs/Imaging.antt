@@ -74,7 +74,7 @@ module _ {r : Table} {s : Source} {w : Writer} (b : IsSource r s) (next_is : w.n
 
   module _ {w₁ : Writer} (told : Emits s w w₁) where
     body_told : (d : Definition) → Holds r d → Emitted w w₁ (length (encode (body d))) (code (names s) (body d) w.«end»)
-    body_told d h = told.told (body d) (body_here d h)
+    body_told d h = told.told (body d) (body_here d h).stand
 
     last_room : (d : Definition) → Holds r d → w₁.«end» + 1 ≤ w.count
     last_room d h = omega (arith, (body_told d h).end_is, length-code (names s) (body d) w.«end», end_is, count_is, counted r d h)

@@ -36,7 +36,7 @@ pub record ReadyAs (s : Source) (w : Writer) (c : Cell) : Type 0 where
 pub record Emits (s : Source) (w w' : Writer) : Type 0 where
   pub kept : Kept w w'
   pub further : w.next < w'.next
-  pub told : (e : Exp) → Here s w e → Emitted w w' (length (encode e)) (code (names s) e w.«end»)
+  pub told : (e : Exp) → CellsIn s.cells w.next (encode e) → Emitted w w' (length (encode e)) (code (names s) e w.«end»)
 
 -- what stands before each expression of a list
 abbrev pub before : Role → List Instr
@@ -63,4 +63,4 @@ pub record ReadyList (s : Source) (role : Role) (w : Writer) (k : ℕ) : Type 0 
 
 pub record EmitsList (s : Source) (role : Role) (w w' : Writer) (k : ℕ) : Type 0 where
   pub kept : Kept w w'
-  pub told : (es : Exps) → count es ≡ k → HereList s role w es → Emitted w w' (length (encodes es)) (listed role (names s) es w.«end»)
+  pub told : (es : Exps) → count es ≡ k → CellsIn s.cells w.next (encodes es) → Emitted w w' (length (encodes es)) (listed role (names s) es w.«end»)

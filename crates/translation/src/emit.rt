@@ -80,9 +80,11 @@ impl<'a, 'b> Source<'a, 'b> {
         requires { ReadyAs self.now out.old (Set x) }
         ensures { Emits self.now out.old out.new }
     {
+        // The value, and then its store in the place after it.
         out.skip_cell();
         self.translate_expression(out);
-        out.emit(self.formals.store(x));
+        let last = out.reserve();
+        out.put(last, self.formals.store(x));
     }
 
     #[cycle(emitting)]

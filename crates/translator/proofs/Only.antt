@@ -1,6 +1,7 @@
 -- A table has one answer only.
-use Rattle.std.proofs.Common.{◌≡◌, ℕ, ◌<◌, List, Ok, Err, Result, sym, refl, ap, ◌∙◌, subst, arith}
-use Rattle.language.specs.Tree.{Definition, formals}
+use Rattle.std.proofs.Common.{◌≡◌, ℕ, ◌+◌, ◌<◌, List, Ok, Err, Result, sym, refl, ap, ◌∙◌, subst, arith}
+use Rattle.language.specs.Tree.{Definition, body, formals}
+use Rattle.language.specs.Height.{height}
 use Rattle.language.specs.Limits.{Distinct}
 use Rattle.format.specs.declared.refusal.Refusal.{Refusal}
 use Rattle.format.specs.declared.refusal.Refusal.TheVariants.{Cell}
@@ -10,6 +11,8 @@ use Rattle.format.specs.Cells.{header_of}
 use Rattle.format.proofs.Headers.{only_first}
 use Rattle.translator.specs.declared.table.Table.{Table}
 use Rattle.translator.specs.Tables.{formals_in, FirstWrong, wrong, missing, IsTable}
+use Rattle.translator.specs.Weight.{weight}
+use Rattle.translator.specs.InCells.{cell_codes, cell_operands}
 use Rattle.translator.specs.Verdict.{Refused, SIZE, HEAD, CELL, SHAPE, TWICE, NEST, Verdict, Only, Answered}
 use Rattle.translator.proofs.Facts.{one_definition}
 use Rattle.translator.proofs.Verdicts.{not_both}
@@ -65,8 +68,13 @@ module _ (t : List ℕ) where
 
   one_answer : (r : Result Table Refusal) → Verdict t r → Only t r
   one_answer (Ok r) v (Ok s) w =
-      let same : s.header ≡ r.header = w.header ∙ ap header_of (v.only _ record { fits = w.within.fits; is = w.is }) ∙ sym v.header in
-      ap Ok same
+      let same : w.definition ≡ v.definition = v.only _ record { fits = w.within.fits; is = w.is } in
+      let headers : s.header ≡ r.header = w.header ∙ ap header_of same ∙ sym v.header in
+      let all_codes : cell_codes s.cells ≡ cell_codes r.cells = w.codes ∙ sym v.codes in
+      let all_operands : cell_operands s.cells ≡ cell_operands r.cells = w.operands ∙ sym v.operands in
+      let counts : s.count ≡ r.count = w.counted ∙ ap (λ d. weight (body d) + 1) same ∙ sym v.counted in
+      let heights : s.height ≡ r.height = w.high ∙ ap (λ d. height (body d)) same ∙ sym v.high in
+      λ i. Ok (record { header = headers i; codes = all_codes i; operands = all_operands i; count = counts i; height = heights i })
   one_answer (Ok r) v (Err e) w = absurd (w.1 v.definition v.within v.is)
   one_answer (Err e) v (Ok s) w = absurd (v.1 w.definition w.within w.is)
   one_answer (Err e) v (Err f) w = ap Err (one_refusal w.0 v.0)

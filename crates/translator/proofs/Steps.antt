@@ -46,6 +46,19 @@ module _ (codes operands : List ℕ) where
           high = omega (arith, high, x.high ∙ ap (λ k. raised k x.es) lift, m.1.high);
         }
 
+    -- an expression of one cell
+    pub alone : (n : ℕ) (q : Extent) → Some n ≡ parts c → n ≡ 0 → q.«end» ≡ at + 1 → q.depth ≡ 1 → q.count ≡ own c → q.height ≡ 1 → ExpAt codes operands at q
+    alone n q h none past deep long high =
+        let m = make c nil (sym h ∙ ap Some none) in
+        record {
+          e = m.0;
+          stand = subst (λ cs. CellsAt codes operands at cs) (sym m.1.cells) (here, tt);
+          past = past ∙ omega (arith, ap length m.1.cells);
+          deep = deep ∙ omega (arith, m.1.deep);
+          long = omega (arith, long, m.1.long);
+          high = omega (arith, high, m.1.high);
+        }
+
   pub none_left : (at n k : ℕ) (q : Extent) → n ≡ 0 → q.«end» ≡ at → q.depth ≡ 0 → q.count ≡ 0 → q.height ≡ 0 → ExpsAt codes operands at n k q
   none_left at n k q none same flat short low =
       record { es = nil; many = sym none; stand = tt; past = omega arith; deep = flat; long = short; high = low }

@@ -49,9 +49,20 @@ abbrev pub Verdict : List ℕ → Result Table Refusal → Type 0
 Verdict t (Ok r) = Accepted t r
 Verdict t (Err e) = Refused t (told e) × NoTable t
 
+-- all that an accepted table tells
+pub record Content : Type 0 where
+  pub header : Header
+  pub codes : List ℕ
+  pub operands : List ℕ
+  pub count : ℕ
+  pub height : ℕ
+
+abbrev pub content : Table → Content
+content r = record { header = r.header; codes = cell_codes r.cells; operands = cell_operands r.cells; count = r.count; height = r.height }
+
 -- what an answer tells
-abbrev pub answer : Result Table Refusal → Result Header Told
-answer (Ok r) = Ok r.header
+abbrev pub answer : Result Table Refusal → Result Content Told
+answer (Ok r) = Ok (content r)
 answer (Err e) = Err (told e)
 
 -- no other answer is right

@@ -41,16 +41,28 @@ fn own_count(cell: &Cell) -> u16
 
 impl<'a> Cells<'a> {
     // The expression that begins at `at`, or None where none does.
+    #[inline(always)]
     #[cycle(reading)]
     pub(crate) fn read_expression(&self, at: u16) -> Option<Extent>
         ensures { MatchOption result (NoExpIn self.now at) (ExpIn self.now at) }
     {
         let cell = self.cell(at)?;
-        let inner = self.read_parts(at + 1, cell.parts()?, lift_of(&cell))?;
+        let parts = cell.parts()?;
+        let own = own_count(&cell);
+        // An expression of one cell takes no call, which would cost as much as reading it.
+        if parts == 0 {
+            return Some(Extent {
+                end: at + 1,
+                depth: 1,
+                count: own,
+                height: 1,
+            });
+        }
+        let inner = self.read_parts(at + 1, parts, lift_of(&cell))?;
         Some(Extent {
             end: inner.end,
             depth: inner.depth + 1,
-            count: inner.count + own_count(&cell),
+            count: inner.count + own,
             height: inner.height.max(1),
         })
     }

@@ -1,18 +1,13 @@
-use Rattle.std.proofs.Common.{◌≡◌, ap, ◌∙◌, length, vec_items, map, arith, rules}
-use Rattle.listing.proofs.Heights.{one_each}
-use Rattle.listing.proofs.Passing.{unknown, pass_none, pass_more, pass_whole, in_vec}
+use Rattle.std.proofs.Common.{◌≡◌, vec_items, map, rules}
+use Rattle.listing.proofs.Passing.{unknown, instrs_unknown, none_told}
 use Rattle.listing.proofs.Listing.new.Goals as goal
 
-pub loop-p-init : goal.loop-p-init
-loop-p-init c =
+pub follow_all-requires : goal.follow_all-requires
+follow_all-requires c =
     let made : vec_items c.in_ok-lines.lines ≡ map unknown (vec_items c.args.instrs) = search rules in
-    record { each = omega arith; passed = in_vec _ _ _ _ _ (omega arith) (pass_none _ _ _ (c.deref_mut.ensures.value ∙ made) c.note.ensures) }
-
-pub loop-p-preserved : goal.loop-p-preserved
-loop-p-preserved c =
-    record { each = omega arith; passed = in_vec _ _ _ _ _ (omega arith) (pass_more _ _ _ _ (omega arith) c.follow.ensures (rw c.deref_mut-in-loop-p.ensures.value c.loop-p.invariant.passed)) }
+    λ k h told. none_told _ k h (rw made at told)
 
 pub returns : goal.returns
 returns c =
-    let passed = c.loop-p.invariant.passed in
-    record { instrs_are = passed.instrs; one_each = one_each _ ∙ ap length passed.instrs; sound = passed.sound; complete = pass_whole _ _ _ (omega arith) passed }
+    let made : vec_items c.in_ok-lines.lines ≡ map unknown (vec_items c.args.instrs) = search rules in
+    rw (made, instrs_unknown) at c.follow_all.ensures

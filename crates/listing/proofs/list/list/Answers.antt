@@ -10,8 +10,5 @@ use Rattle.listing.proofs.list.list.Goals as goal
 out_of_memory : (bytes : List ℕ) (image : Image) → ImageRead bytes (Ok image) → (r : Result Listing ListError) → r ≡ Err OutOfMemory → Listed bytes r
 out_of_memory bytes image read r is = subst (Listed bytes) (sym is) (image, read)
 
-pub returns-in_err-instrs : goal.returns-in_err-instrs
-returns-in_err-instrs c = out_of_memory _ c.in_ok-image.image c.in_ok-image.ensures.read _ (search rules)
-
-pub returns-in_err-new : goal.returns-in_err-new
-returns-in_err-new c = out_of_memory _ c.in_ok-image.image c.in_ok-image.ensures.read _ (search rules)
+pub returns-in_err-lines : goal.returns-in_err-lines
+returns-in_err-lines c = out_of_memory _ c.in_ok-image.image c.in_ok-image.ensures.read _ (search rules)

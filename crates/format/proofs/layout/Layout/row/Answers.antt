@@ -1,4 +1,4 @@
-use Rattle.std.proofs.Common.{◌≡◌, w32, SFits, to_z, of_z, rules}
+use Rattle.std.proofs.Common.{◌≡◌, w32, SFits, to_z, of_z, arith, rules}
 use Rattle.std.proofs.lemmas.Int.{to_z-of_z}
 use Rattle.format.proofs.Values.{value_at}
 use Rattle.format.proofs.layout.Layout.row.Goals as goal
@@ -12,5 +12,5 @@ returns c =
     record {
       within = search rules;
       code = search rules;
-      operand = rw same (value_at c.args.self.now.operands.now each c.args.i (search rules) v f c.from_le_bytes-operand.ensures);
+      operand = rw same (value_at c.args.self.now.operands.now each c.args.i _ (omega arith) (search rules) v f c.from_le_bytes-operand.ensures);
     }

@@ -1,6 +1,6 @@
 use Rattle.std.proofs.Common.{ℕ, ◌+◌, ◌<◌, ◌≤◌, refl, arith, w32, SFits, rules}
 use Rattle.std.proofs.lemmas.Int.{to_z-of_z}
-use Rattle.translation.proofs.Emitting.{begins, ready_as, formal_never, some_room, literal_done, var_done, empty_done, set_ready, set_room, set_done, if_test_ready, if_test_room, if_second_ready, if_second_room, if_third_ready, if_done, while_test_ready, while_test_room, while_body_ready, while_body_room, while_done, list_none, list_first_ready, list_rest_ready, list_done, begin_first_ready, begin_rest_ready, begin_done, apply_list_ready, apply_room, apply_done}
+use Rattle.translation.proofs.Emitting.{begins, ready_as, formal_never, some_room, literal_done, var_done, empty_done, set_ready, set_room, set_done, put_last, if_test_ready, if_test_room, if_second_ready, if_second_room, if_third_ready, if_done, while_test_ready, while_test_room, while_body_ready, while_body_room, while_done, list_none, list_first_ready, list_rest_ready, list_done, begin_first_ready, begin_rest_ready, begin_done, apply_list_ready, apply_room, apply_done}
 use Rattle.translation.proofs.emit.Source.+emitting.Goals.{translate_if-After-translate_expression, translate_if-After-translate_expression-2, translate_while-After-translate_expression, translate_while-After-translate_expression-2}
 use Rattle.translation.proofs.emit.Source.+emitting.Goals as goal
 
@@ -32,11 +32,16 @@ translate_expression-returns-in-Var t c =
 pub translate_set-translate_expression-requires : goal.translate_set-translate_expression-requires
 translate_set-translate_expression-requires t c = (omega arith, set_ready _ c.requires c.skip_cell.ensures)
 
-pub translate_set-emit-requires : goal.translate_set-emit-requires
-translate_set-emit-requires t c = set_room _ c.requires c.skip_cell.ensures c.translate_expression.ensures
+pub translate_set-reserve-last-requires : goal.translate_set-reserve-last-requires
+translate_set-reserve-last-requires t c = set_room _ c.requires c.skip_cell.ensures c.translate_expression.ensures
+
+pub translate_set-put-requires : goal.translate_set-put-requires
+translate_set-put-requires t c =
+    omega (arith, set_room _ c.requires c.skip_cell.ensures c.translate_expression.ensures, some_room _ c.skip_cell.ensures c.requires.here, c.translate_expression.ensures.kept.same_count)
 
 pub translate_set-returns : goal.translate_set-returns
-translate_set-returns t c = set_done _ c.requires c.skip_cell.ensures c.translate_expression.ensures c.store.ensures c.emit.ensures
+translate_set-returns t c =
+    set_done _ c.requires c.skip_cell.ensures c.translate_expression.ensures c.store.ensures (put_last c.reserve-last.ensures.passed c.reserve-last.ensures.told c.put.ensures)
 
 -- ---- IF
 
@@ -100,7 +105,7 @@ pub translate_while-emit-requires-3 : goal.translate_while-emit-requires-3
 translate_while-emit-requires-3 t c = omega (arith, last_room t (goal.at.translate_while-emit-requires-3 t c).After-translate_expression-2)
 
 pub translate_while-returns : goal.translate_while-returns
-translate_while-returns t c = while_done _ c.requires c.skip_cell.ensures c.translate_expression.ensures c.reserve-exit.ensures.passed c.translate_expression-2.ensures refl c.reserve-exit.ensures.told c.emit.ensures c.emit-2.ensures c.put.ensures c.emit-3.ensures
+translate_while-returns t c = while_done _ c.requires c.skip_cell.ensures c.translate_expression.ensures c.reserve-exit.ensures.passed c.translate_expression-2.ensures refl c.reserve-exit.ensures.told c.emit.ensures c.emit-2.ensures c.put.ensures (omega arith) c.emit-3.ensures
 
 -- ---- BEGIN
 
