@@ -34,7 +34,7 @@ fn to_digit(c: u8) -> Option<u8>
     }
 }
 
-// The same of a digit, in place of `unwrap`, which would test each one again by a branch.
+// The number of a digit. `unwrap` would test once more that it is one.
 fn value(c: u8) -> u8
     requires { IsDigit c }
     ensures { (result < 16) × (digit result ≡ c) }

@@ -50,7 +50,7 @@ pub fn list(heap: Global, bytes: &[u8]) -> Result<Listing, ListError>
     Ok(Listing::follow_all(lines))
 }
 
-// The lines of an image that was read, right away and not by its instructions, so that there is one array only.
+// The lines of an image that was read, with no heights yet. Made at once, so that there is one array.
 fn collect(heap: Global, image: &Image) -> Result<Vec<Line>, AllocError>
     requires { EachInstr image.now }
     ensures { IfOk result (λ lines. Decodes (codes_of_image image.now) (operands_of_image image.now) image.now.header (instrs_in lines.items) × Unknown lines.items) }

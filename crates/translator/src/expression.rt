@@ -41,6 +41,7 @@ fn own_count(cell: &Cell) -> u16
 
 impl<'a> Cells<'a> {
     // The expression that begins at `at`, or None where none does.
+    // Inlined into `read_parts` for speed: a part of one cell then takes no call.
     #[inline(always)]
     #[cycle(reading)]
     pub(crate) fn read_expression(&self, at: u16) -> Option<Extent>
@@ -49,7 +50,7 @@ impl<'a> Cells<'a> {
         let cell = self.cell(at)?;
         let parts = cell.parts()?;
         let own = own_count(&cell);
-        // An expression of one cell takes no call, which would cost as much as reading it.
+        // An expression of one cell, which has no parts to read.
         if parts == 0 {
             return Some(Extent {
                 end: at + 1,
